@@ -1,0 +1,28 @@
+// The 27 ACM formats (tables 4-1 and 4-3).
+ghost use mathlib.Core.Path.{_≡_};
+ghost use Rattle.acm.specs.Formats.{answerOf, lookedUp};
+
+mod table;
+
+pub use table::Format;
+
+// The answer of a lookup.
+pub enum Found {
+    Record(Format),
+    NoFormat,
+}
+
+// The record of an ACM format, for any number.
+// Checks: 1.
+pub fn lookup(format: u64) -> Found
+    ensures { λ r. ⌜ answerOf r ≡ lookedUp format ⌝ }
+{
+    if format < 1 {
+        return Found::NoFormat;
+    }
+    if 27 < format {
+        return Found::NoFormat;
+    }
+    let at = (format - 1) as usize;
+    Found::Record(table::FORMATS[at])
+}

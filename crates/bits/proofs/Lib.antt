@@ -1,0 +1,6 @@
+pub mod Cases
+pub mod Fill
+pub mod Legal
+pub mod Lists
+pub mod Sums
+pub mod Table

@@ -1,0 +1,39 @@
+-- Laws of sums modulo 2, of bits and of lists of bits.
+use mathlib.Core.Path.{_≡_, refl, ap, _∙_}
+use mathlib.Core.Bool.{Bool, true}
+use mathlib.Core.List.{List, [], _∷_, _++_}
+use Prim.Native.Nat.{ℕ, zero, suc, _+_, _%_, _≤_}
+use native.Mathlib.Nat.{mod-add-mod, add-mod-mod}
+use native.Mathlib.Omega.{arith}
+use borrow.Author.Tests.{le-leb}
+use lib.ListN.{length, getD}
+use Rattle.bits.specs.Legal.{allBits}
+use Rattle.bits.specs.Sum.{_⊕_, _⊕*_}
+
+-- the law behind every linearity: sums may be added in either grouping
+pub interchange : (a b c d : ℕ) → (a ⊕ b) ⊕ (c ⊕ d) ≡ (a ⊕ c) ⊕ (b ⊕ d)
+interchange a b c d = simp (mod-add-mod, add-mod-mod) (ap (λ (n : ℕ). n % 2) (omega arith))
+
+-- of as many bits
+pub ⊕*-length : (xs ys : List ℕ) → length xs ≡ length ys → length (xs ⊕* ys) ≡ length xs
+⊕*-length [] ys e = refl
+⊕*-length (x ∷ xs) [] e = absurd (omega arith)
+⊕*-length (x ∷ xs) (y ∷ ys) e = ap suc (⊕*-length xs ys (omega arith))
+
+pub ⊕*-append : (a b xs ys : List ℕ) → length a ≡ length b → (a ++ xs) ⊕* (b ++ ys) ≡ (a ⊕* b) ++ (xs ⊕* ys)
+⊕*-append [] [] xs ys e = refl
+⊕*-append [] (v ∷ b) xs ys e = absurd (omega arith)
+⊕*-append (u ∷ a) [] xs ys e = absurd (omega arith)
+⊕*-append (u ∷ a) (v ∷ b) xs ys e = ap (λ (l : List ℕ). u ⊕ v ∷ l) (⊕*-append a b xs ys (omega arith))
+
+pub ⊕*-at : (xs ys : List ℕ) (k : ℕ) → length xs ≡ length ys → getD (xs ⊕* ys) k 0 ≡ getD xs k 0 ⊕ getD ys k 0
+⊕*-at [] [] k e = refl
+⊕*-at [] (y ∷ ys) k e = absurd (omega arith)
+⊕*-at (x ∷ xs) [] k e = absurd (omega arith)
+⊕*-at (x ∷ xs) (y ∷ ys) zero e = refl
+⊕*-at (x ∷ xs) (y ∷ ys) (suc k) e = ⊕*-at xs ys k (omega arith)
+
+pub ⊕*-bits : (xs ys : List ℕ) → allBits (xs ⊕* ys) ≡ true
+⊕*-bits [] ys = refl
+⊕*-bits (x ∷ xs) [] = refl
+⊕*-bits (x ∷ xs) (y ∷ ys) = rw (le-leb (x ⊕ y) 1 (omega arith)) (⊕*-bits xs ys)

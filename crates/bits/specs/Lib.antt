@@ -1,0 +1,5 @@
+pub mod Checks
+pub mod Choice
+pub mod Legal
+pub mod Permutation
+pub mod Sum

@@ -1,0 +1,19 @@
+// The number of each check of document 01 ("Questions at the door"), in the order in which checks are made.
+// specs/Checks.antt has the same numbers for the contracts.
+
+// The ACM format is 1 to 27.
+pub const FORMAT: u8 = 1;
+// Each input list is as long as the call takes.
+pub const LENGTH: u8 = 2;
+// Each input element is legal.
+pub const ELEMENT: u8 = 3;
+// The workspace is long enough.
+pub const WORKSPACE: u8 = 4;
+// The output is long enough.
+pub const OUTPUT: u8 = 5;
+// The job line is well formed.
+pub const LINE: u8 = 6;
+// The job line's pattern is known.
+pub const PATTERN: u8 = 7;
+// The place asked for is inside.
+pub const PLACE: u8 = 8;

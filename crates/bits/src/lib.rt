@@ -1,0 +1,27 @@
+// Bits as bytes, and the numbers of the checks: what more than one layer uses.
+ghost use mathlib.Core.Path.{_≡_};
+ghost use Rattle.bits.specs.Sum.{_⊕_};
+ghost use Rattle.bits.specs.Legal.{allAtMost};
+
+pub mod checks;
+
+// The sum of two bits modulo 2.
+pub fn sum(a: u8, b: u8) -> u8
+    ensures { λ r. ⌜ r ≡ a ⊕ b ⌝ }
+{
+    (a ^ b) % 2
+}
+
+// Whether every element is at most `top`: 1 for bits, 2^m - 1 for labels.
+pub fn all_at_most(list: &[u8], top: u8) -> bool
+    ensures { λ r. ⌜ r ≡ allAtMost top (now (list .entry)) ⌝ }
+{
+    let mut i = 0;
+    while i < list.len() {
+        if top < list[i] {
+            return false;
+        }
+        i += 1;
+    }
+    true
+}
