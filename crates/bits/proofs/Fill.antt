@@ -3,7 +3,7 @@
 --     left-start   at the start all of ws is left
 --     left-as      what is left may be written another way
 --     left-room    while something is left, n is inside the buffer
---     left-store   a store at n takes the first of what is left
+--     left-store   a store at n takes the first of what is left; two and three stores likewise
 --     left-count   with nothing left, n is past ws
 --     left-end     with nothing left, the buffer is ws and, behind it, what was there
 use mathlib.Core.Path.{_≡_, refl, ap, subst, _∙_}
@@ -36,8 +36,26 @@ module _ {out₀ : List ℕ} {at : ℕ} {ws out : List ℕ} {n : ℕ} where
     rest = rw (add-one n) (l .rest);
   }
 
+  pub left-room-two : {x y : ℕ} {vs : List ℕ} → at + length ws ≤ length out₀ → Left out₀ at ws out n (x ∷ y ∷ vs) → n + 1 < length out
+  left-room-two room l = omega (arith, l .count, l .same)
+
+  pub left-room-three : {x y z : ℕ} {vs : List ℕ} → at + length ws ≤ length out₀ → Left out₀ at ws out n (x ∷ y ∷ z ∷ vs) → n + 2 < length out
+  left-room-three room l = omega (arith, l .count, l .same)
+
   pub left-count : Left out₀ at ws out n [] → n ≡ at + length ws
   left-count l = omega (arith, l .count)
+
+module _ {out₀ : List ℕ} {at : ℕ} {ws out : List ℕ} {n : ℕ} where
+  pub left-store-two : {x y : ℕ} {vs : List ℕ} → Left out₀ at ws out n (x ∷ y ∷ vs) → Left out₀ at ws (set (set out n x) (n + 1) y) (n + 2) vs
+  left-store-two l =
+      let e : n + 1 + 1 ≡ n + 2 = omega arith in
+      rw e at (left-store (left-store l))
+
+  pub left-store-three : {x y z : ℕ} {vs : List ℕ} → Left out₀ at ws out n (x ∷ y ∷ z ∷ vs)
+      → Left out₀ at ws (set (set (set out n x) (n + 1) y) (n + 2) z) (n + 3) vs
+  left-store-three l =
+      let e : n + 2 + 1 ≡ n + 3 = omega arith in
+      rw e at (left-store (left-store-two l))
 
 -- stored from the front
 pub sets-front : (ws l : List ℕ) → length ws ≤ length l → sets l 0 ws ≡ ws ++ drop (length ws) l

@@ -1,5 +1,8 @@
--- The number of each check of document 01 ("Questions at the door"); passed is the answer of a call that makes it through all of its checks.
+-- The checks of document 01 ("Questions at the door") and their numbers; passed is the answer of a call that fails none.
+use mathlib.Core.Bool.{Bool}
+use mathlib.Core.List.{List, [], _∷_}
 use Prim.Native.Nat.{ℕ}
+use Rattle.bits.specs.Choice.{if_then_else_}
 
 abbrev pub passed : ℕ
 passed = 0
@@ -27,3 +30,17 @@ badPattern = 7
 
 abbrev pub badPlace : ℕ
 badPlace = 8
+
+-- a check: whether it holds, and its number
+pub record Check : Type 0 where
+  pub holds : Bool
+  pub number : ℕ
+
+infix 68 _or-else_
+abbrev pub _or-else_ : Bool → ℕ → Check
+b or-else n = record { holds = b; number = n }
+
+-- the number of the first check that does not hold
+abbrev pub firstFailed : List Check → ℕ
+firstFailed [] = passed
+firstFailed (c ∷ cs) = if c .holds then firstFailed cs else c .number

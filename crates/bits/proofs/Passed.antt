@@ -1,0 +1,30 @@
+-- A call whose answer is 0 has passed all of its checks, each of which has a number other than 0.
+use mathlib.Core.Path.{_≡_, refl}
+use mathlib.Core.Bool.{Bool, true, _&&_}
+use mathlib.Core.List.{List, [], _∷_}
+use Prim.Native.Nat.{ℕ, suc, _<_}
+use native.Mathlib.Omega.{arith}
+use borrow.Author.Tests.{ltb-true}
+use lib.Dec.{ltb}
+use lib.ListN.{length, getD}
+use Rattle.bits.specs.Checks.{Check, firstFailed, passed}
+use Rattle.bits.proofs.Cases.{by-cases}
+use Rattle.bits.proofs.Table.{every, every-at, left-true, right-true}
+
+abbrev pub numbered : List Check → Bool
+numbered = every (λ i c. ltb 0 (c .number)) 0
+
+all-hold : (cs : List Check) (i : ℕ) → every (λ i c. ltb 0 (c .number)) i cs ≡ true → firstFailed cs ≡ passed
+    → every (λ i c. c .holds) i cs ≡ true
+all-hold [] i n e = refl
+all-hold (c ∷ cs) i n e =
+    by-cases (c .holds)
+    (λ t. rw t (all-hold cs (suc i) (right-true (ltb 0 (c .number)) (every (λ i c. ltb 0 (c .number)) (suc i) cs) n) (rw t at e)))
+    (λ f. absurd (clash (rw f at e)))
+  where
+    clash : c .number ≡ passed → ⊥
+    clash q = omega (arith, ltb-true 0 (c .number) (left-true (ltb 0 (c .number)) (every (λ i c. ltb 0 (c .number)) (suc i) cs) n))
+
+pub passes : (cs : List Check) (d : Check) → numbered cs ≡ true → firstFailed cs ≡ passed → (k : ℕ) → k < length cs
+    → getD cs k d .holds ≡ true
+passes cs d n e = every-at (λ i c. c .holds) cs d (all-hold cs 0 n e)

@@ -1,0 +1,6 @@
+pub mod Count
+pub mod Kept
+pub mod Matched
+pub mod Places
+pub mod Positions
+pub mod Zeroed

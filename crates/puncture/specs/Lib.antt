@@ -1,0 +1,2 @@
+pub mod Puncture
+pub mod Table42

@@ -1,0 +1,62 @@
+-- Runs over joined lists, their lengths, and where a terminated run ends.
+use mathlib.Core.Path.{_≡_, refl, ap, _∙_}
+use mathlib.Core.Bool.{Bool, true}
+use mathlib.Core.List.{List, [], _∷_, _++_}
+use Prim.Native.Nat.{ℕ, suc, _+_, _*_}
+use native.Mathlib.Omega.{arith}
+use borrow.Author.Tests.{le-leb}
+use lib.ListN.{length, length-append}
+use Rattle.bits.specs.Legal.{allBits}
+use Rattle.bits.specs.Sum.{_⊕_}
+use Rattle.bits.proofs.Legal.{legal-append}
+use Rattle.trellis.specs.Trellis.{State, zero-state, parity, next, run, parities, ends, terminating, termination, terminatedFrom, terminated}
+
+-- a run over two lists joined is the run over the first, and then over the second from where that ended
+pub ends-append : (x : State) (a b : List ℕ) → ends x (a ++ b) ≡ ends (ends x a) b
+ends-append x [] b = refl
+ends-append x (u ∷ a) b = ends-append (next x u) a b
+
+pub run-append : (x : State) (a b : List ℕ) → run x (a ++ b) ≡ run x a ++ run (ends x a) b
+run-append x [] b = refl
+run-append x (u ∷ a) b = rw (run-append (next x u) a b)
+
+pub parities-append : (x : State) (a b : List ℕ) → parities x (a ++ b) ≡ parities x a ++ parities (ends x a) b
+parities-append x [] b = refl
+parities-append x (u ∷ a) b = rw (parities-append (next x u) a b)
+
+pub run-length : (x : State) (bits : List ℕ) → length (run x bits) ≡ 2 * length bits
+run-length x [] = refl
+run-length x (u ∷ us) = omega (arith, run-length (next x u) us)
+
+pub parities-length : (x : State) (bits : List ℕ) → length (parities x bits) ≡ length bits
+parities-length x [] = refl
+parities-length x (u ∷ us) = ap suc (parities-length (next x u) us)
+
+pub terminated-length : (x : State) (bits : List ℕ) → length (terminatedFrom x bits) ≡ length bits + 2
+terminated-length x bits = length-append bits (termination (ends x bits))
+
+-- parities and terminating bits are bits, whatever the state
+pub parities-bits : (x : State) (bits : List ℕ) → allBits (parities x bits) ≡ true
+parities-bits x [] = refl
+parities-bits x (u ∷ us) = rw (le-leb (parity x u) 1 (omega arith)) (parities-bits (next x u) us)
+
+pub termination-bits : (x : State) → allBits (termination x) ≡ true
+termination-bits x =
+    let t = terminating x in
+    rw (le-leb t 1 (omega arith), le-leb (terminating (next x t)) 1 (omega arith))
+
+pub terminated-bits : (x : State) (bits : List ℕ) → allBits bits ≡ true → allBits (terminatedFrom x bits) ≡ true
+terminated-bits x bits h = legal-append 1 bits (termination (ends x bits)) h (termination-bits (ends x bits))
+
+-- the two terminating steps end in the state 00, from any state
+pub terminates : (x : State) → ends x (termination x) ≡ zero-state
+terminates x =
+    let t = terminating x in
+    let y = next x t in
+    let first : y .1 ≡ 0 = omega arith in
+    let second : next y (terminating y) .1 ≡ 0 = omega arith in
+    rw (second, first)
+
+-- so a terminated run ends there, for every list of bits
+pub terminated-ends : (bits : List ℕ) → ends zero-state (terminated bits) ≡ zero-state
+terminated-ends bits = ends-append zero-state bits (termination (ends zero-state bits)) ∙ terminates (ends zero-state bits)

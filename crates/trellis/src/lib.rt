@@ -1,0 +1,69 @@
+// The four-state trellis of both encoders (4.2, 6): a step, and the two steps that terminate it.
+ghost use mathlib.Core.Path.{_≡_};
+ghost use Rattle.trellis.specs.Trellis.{stepped, refusedStep, terminationOf};
+
+pub mod steps;
+
+// The answer of a step: the check's number, the two output bits and the state 2 * x0 + x1 that follows.
+pub struct Stepped {
+    pub number: u8,
+    pub systematic: u8,
+    pub parity: u8,
+    pub state: u8,
+}
+
+// One step from the state 2 * x0 + x1 on a bit.
+// Checks: 3, of the state and of the bit. A refusal has 0 in every other field.
+pub fn step(state: u64, bit: u64) -> Stepped
+    ensures { λ r. ⌜ r ≡ stepped state bit ⌝ }
+{
+    if 3 < state {
+        return refused();
+    }
+    if 1 < bit {
+        return refused();
+    }
+    let x0 = (state / 2) as u8;
+    let x1 = (state % 2) as u8;
+    let u = bit as u8;
+    Stepped {
+        number: 0,
+        systematic: u,
+        parity: steps::parity(x1, u),
+        state: 2 * x1 + steps::next(x0, x1, u),
+    }
+}
+
+fn refused() -> Stepped
+    ensures { λ r. ⌜ r ≡ refusedStep ⌝ }
+{
+    Stepped {
+        number: bits::checks::ELEMENT,
+        systematic: 0,
+        parity: 0,
+        state: 0,
+    }
+}
+
+// The two terminating steps (document 01: closing): the systematic and the parity bit of each.
+pub struct Termination {
+    pub s0: u8,
+    pub p0: u8,
+    pub s1: u8,
+    pub p1: u8,
+}
+
+// The two steps that lead from the state x0, x1 to the state 00.
+pub fn terminate(x0: u8, x1: u8) -> Termination
+    ensures { λ r. ⌜ r ≡ terminationOf (x0, x1) ⌝ }
+{
+    let u = bits::sum(x0, x1);
+    let y = steps::next(x0, x1, u);
+    let v = bits::sum(x1, y);
+    Termination {
+        s0: u,
+        p0: steps::parity(x1, u),
+        s1: v,
+        p1: steps::parity(y, v),
+    }
+}

@@ -1,0 +1,259 @@
+//! The checks of each call and their numbers (document 01: questions at the
+//! door). Each function gives the number of the first check that fails, 0 if
+//! none does.
+
+use crate::framing::{FRAME_LABELS, FRAME_SLOTS, SECTIONS};
+use crate::tables::{self, SECTION};
+
+pub const PASSED: u64 = 0;
+/// The format is not 1 to 27.
+pub const FORMAT: u64 = 1;
+/// An input list is not exactly as long as the call takes.
+pub const LENGTH: u64 = 2;
+/// An input element is not legal.
+pub const ELEMENT: u64 = 3;
+/// The workspace is too short.
+pub const WORKSPACE: u64 = 4;
+/// The output is too short.
+pub const OUTPUT: u64 = 5;
+/// The job line is not well formed.
+pub const JOB_LINE: u64 = 6;
+/// The pattern is not 0, 1 or 2.
+pub const PATTERN: u64 = 7;
+/// The position or place asked for is not inside.
+pub const POSITION: u64 = 8;
+
+/// The number of the first check that does not hold.
+fn first_failed(checks: &[(u64, bool)]) -> u64 {
+    let failed = checks.iter().find(|(_, holds)| !holds);
+    failed.map_or(PASSED, |&(number, _)| number)
+}
+
+fn all_bits(list: &[u8]) -> bool {
+    list.iter().all(|&bit| bit <= 1)
+}
+
+fn all_labels(list: &[u8], m: usize) -> bool {
+    list.iter().all(|&label| u64::from(label) < 1 << m)
+}
+
+/// Encoding a block.
+pub fn encode(format: u64, block: &[u8], work_len: usize, out_len: usize) -> u64 {
+    let Some(f) = tables::format(format) else {
+        return FORMAT;
+    };
+    first_failed(&[
+        (LENGTH, block.len() == f.K),
+        (ELEMENT, all_bits(block)),
+        (WORKSPACE, work_len >= f.I),
+        (OUTPUT, out_len >= f.N),
+    ])
+}
+
+/// Arranging a codeword into labels.
+pub fn labels(format: u64, codeword: &[u8], out_len: usize) -> u64 {
+    let Some(f) = tables::format(format) else {
+        return FORMAT;
+    };
+    first_failed(&[
+        (LENGTH, codeword.len() == f.N),
+        (ELEMENT, all_bits(codeword)),
+        (OUTPUT, out_len >= SECTION),
+    ])
+}
+
+/// Building a frame from the labels of sixteen codeword sections.
+pub fn frame(format: u64, labels: &[u8], out_len: usize) -> u64 {
+    let Some(f) = tables::format(format) else {
+        return FORMAT;
+    };
+    first_failed(&[
+        (LENGTH, labels.len() == FRAME_LABELS),
+        (ELEMENT, all_labels(labels, f.m)),
+        (OUTPUT, out_len >= FRAME_SLOTS),
+    ])
+}
+
+/// Taking one codeword section out of a frame's labels; any byte is a label.
+pub fn section(labels: &[u8], place: u64) -> u64 {
+    first_failed(&[
+        (LENGTH, labels.len() == FRAME_LABELS),
+        (POSITION, place < SECTIONS as u64),
+    ])
+}
+
+/// Comparing two label lists.
+pub fn compare(format: u64, a: &[u8], b: &[u8]) -> u64 {
+    let Some(f) = tables::format(format) else {
+        return FORMAT;
+    };
+    first_failed(&[
+        (LENGTH, a.len() == SECTION && b.len() == SECTION),
+        (ELEMENT, all_labels(a, f.m) && all_labels(b, f.m)),
+    ])
+}
+
+/// One trellis step.
+pub fn step(state: u64, bit: u64) -> u64 {
+    first_failed(&[(ELEMENT, state <= 3 && bit <= 1)])
+}
+
+/// The interleaved position of a position in the upper register.
+pub fn interleave(format: u64, position: u64) -> u64 {
+    let Some(f) = tables::format(format) else {
+        return FORMAT;
+    };
+    first_failed(&[(POSITION, position < f.I as u64)])
+}
+
+/// The bench program's job line, which asks 6, 1, 7.
+pub fn job(input: &[u8]) -> u64 {
+    let Some((format, pattern)) = job_fields(input) else {
+        return JOB_LINE;
+    };
+    first_failed(&[
+        (FORMAT, tables::format(format).is_some()),
+        (PATTERN, pattern <= 2),
+    ])
+}
+
+/// Format, comma, pattern, line feed, end.
+fn job_fields(input: &[u8]) -> Option<(u64, u64)> {
+    let line = std::str::from_utf8(input).ok()?.strip_suffix('\n')?;
+    let (format, pattern) = line.split_once(',')?;
+    Some((job_field(format)?, job_field(pattern)?))
+}
+
+/// 1 to 3 decimal digits without a leading zero; 0 itself is allowed.
+fn job_field(field: &str) -> Option<u64> {
+    let digits = field.bytes().all(|byte| byte.is_ascii_digit());
+    let leading_zero = field.len() > 1 && field.starts_with('0');
+    if digits && (1..=3).contains(&field.len()) && !leading_zero {
+        field.parse().ok()
+    } else {
+        None
+    }
+}
+
+#[cfg(test)]
+mod tests {
+    use super::*;
+
+    const K: usize = 5758;
+    const I: usize = 8640;
+    const N: usize = 16200;
+
+    #[test]
+    fn format_comes_first() {
+        assert_eq!(encode(0, &[], 0, 0), FORMAT);
+        assert_eq!(encode(28, &[0; K], I, N), FORMAT);
+        assert_eq!(encode(257, &[0; K], I, N), FORMAT);
+        assert_eq!(labels(0, &[2], 0), FORMAT);
+        assert_eq!(frame(28, &[64], 0), FORMAT);
+        assert_eq!(compare(0, &[], &[9]), FORMAT);
+        assert_eq!(interleave(0, u64::MAX), FORMAT);
+    }
+
+    #[test]
+    fn a_block_has_exactly_k_bits() {
+        assert_eq!(encode(1, &[], I, N), LENGTH);
+        assert_eq!(encode(1, &[0; K - 1], I, N), LENGTH);
+        assert_eq!(encode(1, &[0; K + 1], I, N), LENGTH);
+    }
+
+    #[test]
+    fn a_two_is_no_bit() {
+        let mut block = [0; K];
+        block[K - 1] = 2;
+        assert_eq!(encode(1, &block, 0, N), ELEMENT);
+    }
+
+    #[test]
+    fn workspace_has_at_least_i_bytes() {
+        assert_eq!(encode(1, &[1; K], I - 1, 0), WORKSPACE);
+        assert_eq!(encode(1, &[1; K], I, N), PASSED);
+    }
+
+    #[test]
+    fn output_has_at_least_n_bytes() {
+        assert_eq!(encode(1, &[0; K], I, N - 1), OUTPUT);
+        assert_eq!(encode(1, &[0; K], I, N), PASSED);
+        assert_eq!(encode(1, &[0; K], I, N + 1), PASSED);
+    }
+
+    #[test]
+    fn labels_asks_1_2_3_5() {
+        assert_eq!(labels(1, &[0; N - 1], SECTION), LENGTH);
+        assert_eq!(labels(1, &[2; N], 0), ELEMENT);
+        assert_eq!(labels(1, &[1; N], SECTION - 1), OUTPUT);
+        assert_eq!(labels(1, &[1; N], SECTION), PASSED);
+    }
+
+    #[test]
+    fn frame_asks_1_2_3_5() {
+        let threes = vec![3; FRAME_LABELS];
+        let fours = vec![4; FRAME_LABELS];
+        assert_eq!(frame(1, &threes[1..], FRAME_SLOTS), LENGTH);
+        assert_eq!(frame(1, &fours, 0), ELEMENT);
+        assert_eq!(frame(1, &threes, FRAME_SLOTS - 1), OUTPUT);
+        assert_eq!(frame(1, &threes, FRAME_SLOTS), PASSED);
+        assert_eq!(frame(7, &fours, FRAME_SLOTS), PASSED);
+    }
+
+    #[test]
+    fn section_takes_any_byte_and_16_places() {
+        let any = vec![255; FRAME_LABELS];
+        assert_eq!(section(&any[1..], 16), LENGTH);
+        assert_eq!(section(&any, 15), PASSED);
+        assert_eq!(section(&any, 16), POSITION);
+        assert_eq!(section(&any, 1 << 32), POSITION);
+    }
+
+    #[test]
+    fn compare_asks_1_2_3_of_both_lists() {
+        let good = [3; SECTION];
+        let bad = [4; SECTION];
+        assert_eq!(compare(1, &good, &good[1..]), LENGTH);
+        assert_eq!(compare(1, &bad, &good[1..]), LENGTH);
+        assert_eq!(compare(1, &good, &bad), ELEMENT);
+        assert_eq!(compare(1, &bad, &good), ELEMENT);
+        assert_eq!(compare(1, &good, &good), PASSED);
+    }
+
+    #[test]
+    fn step_and_interleave_take_numbers_inside() {
+        assert_eq!(step(3, 1), PASSED);
+        assert_eq!(step(4, 0), ELEMENT);
+        assert_eq!(step(0, 2), ELEMENT);
+        assert_eq!(step(256, 256), ELEMENT);
+        assert_eq!(interleave(1, I as u64 - 1), PASSED);
+        assert_eq!(interleave(1, I as u64), POSITION);
+    }
+
+    #[test]
+    fn job_line_asks_6_1_7() {
+        assert_eq!(job(b"13,0\n"), PASSED);
+        assert_eq!(job(b"07,0\n"), JOB_LINE);
+        assert_eq!(job(b"0,9\n"), FORMAT);
+        assert_eq!(job(b"7,3\n"), PATTERN);
+        for line in [
+            "",
+            "\n",
+            "13,0",
+            "13,0\n\n",
+            "13,0\r\n",
+            "13, 0\n",
+            "13,\n",
+            ",0\n",
+            "+1,0\n",
+            "13,00\n",
+            "1000,0\n",
+            "13,0,0\n",
+            "\"13\",0\n",
+        ] {
+            assert_eq!(job(line.as_bytes()), JOB_LINE, "{line:?}");
+        }
+        assert_eq!(job(b"999,999\n"), FORMAT);
+        assert_eq!(job(b"13,\xff\n"), JOB_LINE);
+    }
+}

@@ -1,0 +1,20 @@
+//! A second encoder for CCSDS 131.2-O-1 with Corrigendum 1, written from the
+//! text of the standard, to hold the first one against.
+//!
+//! It is slow on purpose: each stage of figure 4-1 is a function from whole
+//! vectors to whole vectors, and every table is the printed text, read when it
+//! is needed. Bits are bytes, 0 or 1; positions count from 0.
+
+// The standard's letters are the names here: K, I, W, N, S_sur, Delta.
+#![allow(non_snake_case)]
+
+pub mod annex_c;
+pub mod annex_d;
+pub mod checks;
+pub mod compare;
+pub mod digest;
+pub mod encoder;
+pub mod framing;
+pub mod self_check;
+pub mod tables;
+pub mod trellis;

@@ -1,0 +1,111 @@
+//! The oracle's commands. Without `--annex-c PATH` annex C is read from
+//! data/annex-c.csv, as seen from the repository's root.
+
+#![allow(non_snake_case)]
+
+use oracle::annex_c::{self, AnnexC};
+use oracle::digest::{digest, frame_blocks, pattern_block, vector_blocks};
+use oracle::encoder::{encode, labels};
+use oracle::{annex_d, framing, self_check, tables};
+use std::io::Write;
+use std::path::PathBuf;
+use std::process::ExitCode;
+
+const DEFAULT_ANNEX_C: &str = "data/annex-c.csv";
+
+const USAGE: &str = "usage: oracle [--annex-c PATH] COMMAND
+  self-check           the oracle against outside numbers, one line each
+  formats              the ACM formats, as document 01 lists them
+  vectors              digests of six encoded blocks for each format
+  frames               digests of one frame for five formats
+  ones FORMAT PATTERN  ones in the codeword of pattern 0, 1 or 2
+  annex-d              the spread of each interleaver";
+
+/// Formats with a frame in the listing: one for each modulation.
+const FRAME_FORMATS: [u64; 5] = [1, 7, 13, 18, 27];
+
+fn main() -> ExitCode {
+    let arguments: Vec<String> = std::env::args().skip(1).collect();
+    match command(&arguments) {
+        Ok((text, exit)) => match std::io::stdout().write_all(text.as_bytes()) {
+            Ok(()) => exit,
+            Err(_) => ExitCode::FAILURE,
+        },
+        Err(message) => {
+            eprintln!("{message}");
+            ExitCode::from(2)
+        }
+    }
+}
+
+/// What a command prints, and its exit code.
+fn command(arguments: &[String]) -> Result<(String, ExitCode), String> {
+    let words: Vec<&str> = arguments.iter().map(String::as_str).collect();
+    let (path, words) = match words.as_slice() {
+        ["--annex-c", path, rest @ ..] => (*path, rest),
+        all => (DEFAULT_ANNEX_C, all),
+    };
+    let annex_c = || annex_c::read(&PathBuf::from(path));
+    let text = match words {
+        ["self-check"] => {
+            let report = self_check::self_check(&annex_c()?);
+            return Ok((report.text, ExitCode::from(u8::from(report.failed))));
+        }
+        ["formats"] => tables::listing(),
+        ["vectors"] => vectors(&annex_c()?),
+        ["frames"] => frames(&annex_c()?)?,
+        ["ones", format, pattern] => ones(&annex_c()?, format, pattern)?,
+        ["annex-d"] => annex_d::listing(&annex_c()?),
+        _ => return Err(USAGE.into()),
+    };
+    Ok((text, ExitCode::SUCCESS))
+}
+
+/// Digests of workspace, codeword and labels, six blocks for each format.
+fn vectors(annex_c: &AnnexC) -> String {
+    let mut text = String::from("format,block,work,codeword,labels\n");
+    for f in tables::formats() {
+        for (name, block) in vector_blocks(f) {
+            let encoded = encode(f, annex_c.of_size(f.I), &block);
+            text.push_str(&format!(
+                "{},{name},{},{},{}\n",
+                f.number,
+                digest(&encoded.workspace),
+                digest(&encoded.codeword),
+                digest(&labels(f, &encoded.codeword)),
+            ));
+        }
+    }
+    text
+}
+
+/// Digests of marker, descriptor, labels and slots of one frame for each of
+/// five formats.
+fn frames(annex_c: &AnnexC) -> Result<String, String> {
+    let mut text = String::from("format,marker,descriptor,labels,frame\n");
+    for number in FRAME_FORMATS {
+        let f = tables::format(number).ok_or("no such format")?;
+        let all_labels: Vec<u8> = (frame_blocks(&f).iter())
+            .flat_map(|block| labels(&f, &encode(&f, annex_c.of_size(f.I), block).codeword))
+            .collect();
+        text.push_str(&format!(
+            "{number},{},{},{},{}\n",
+            digest(&framing::marker()),
+            digest(&framing::descriptor(&f, 0)),
+            digest(&all_labels),
+            digest(&framing::frame(&f, &all_labels)),
+        ));
+    }
+    Ok(text)
+}
+
+/// The number of ones in the codeword of a pattern's block.
+fn ones(annex_c: &AnnexC, format: &str, pattern: &str) -> Result<String, String> {
+    let number = format.parse().map_err(|_| "the format is not a number")?;
+    let f = tables::format(number).ok_or("the format is not 1 to 27")?;
+    let pattern = pattern.parse().map_err(|_| "the pattern is not a number")?;
+    let block = pattern_block(pattern, f.K).ok_or("the pattern is not 0, 1 or 2")?;
+    let codeword = encode(&f, annex_c.of_size(f.I), &block).codeword;
+    let count = codeword.iter().filter(|&&bit| bit == 1).count();
+    Ok(format!("{count}\n"))
+}
