@@ -2,6 +2,7 @@
 ghost use mathlib.Core.Path.{_≡_};
 ghost use Rattle.acm.specs.Formats.{answerOf, lookedUp};
 
+pub mod steps;
 mod table;
 
 pub use table::Format;
@@ -23,6 +24,5 @@ pub fn lookup(format: u64) -> Found
     if 27 < format {
         return Found::NoFormat;
     }
-    let at = (format - 1) as usize;
-    Found::Record(table::FORMATS[at])
+    Found::Record(steps::parameters(format))
 }

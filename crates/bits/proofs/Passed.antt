@@ -4,10 +4,11 @@ use mathlib.Core.Bool.{Bool, true, _&&_}
 use mathlib.Core.List.{List, [], _∷_}
 use Prim.Native.Nat.{ℕ, suc, _<_}
 use native.Mathlib.Omega.{arith}
-use borrow.Author.Tests.{ltb-true}
-use lib.Dec.{ltb}
+use borrow.Author.Tests.{ltb-true, eq-eqb, ne-eqb}
+use lib.Dec.{eqb, ltb}
 use lib.ListN.{length, getD}
 use Rattle.bits.specs.Checks.{Check, firstFailed, passed}
+use Rattle.bits.specs.Choice.{if_then_else_}
 use Rattle.bits.proofs.Cases.{by-cases}
 use Rattle.bits.proofs.Table.{every, every-at, left-true, right-true}
 
@@ -28,3 +29,10 @@ all-hold (c ∷ cs) i n e =
 pub passes : (cs : List Check) (d : Check) → numbered cs ≡ true → firstFailed cs ≡ passed → (k : ℕ) → k < length cs
     → getD cs k d .holds ≡ true
 passes cs d n e = every-at (λ i c. c .holds) cs d (all-hold cs 0 n e)
+
+-- what a call leaves: x if it has passed, y if it is refused
+pub when-passed : {A : Type 0} (number : ℕ) (x y : A) → number ≡ passed → x ≡ (if eqb number passed then x else y)
+when-passed number x y e = rw (eq-eqb number passed e)
+
+pub when-refused : {A : Type 0} (number : ℕ) (x y : A) → (number ≡ passed → ⊥) → y ≡ (if eqb number passed then x else y)
+when-refused number x y e = rw (ne-eqb number passed e)

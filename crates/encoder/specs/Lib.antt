@@ -1,0 +1,3 @@
+pub mod Calls
+pub mod Columns
+pub mod Labels
