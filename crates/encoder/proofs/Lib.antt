@@ -1,2 +1,5 @@
 pub mod Checked
+pub mod Codewords
+pub mod Registers
 pub mod Rows
+pub mod Turns

@@ -1,3 +1,5 @@
 pub mod Calls
+pub mod Codeword
 pub mod Columns
+pub mod Inner
 pub mod Labels

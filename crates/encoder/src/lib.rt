@@ -1,10 +1,51 @@
 // The SCCC encoder (4): from an information block to a codeword, and from a codeword to labels.
 ghost use mathlib.Core.Path.{_≡_};
 ghost use lib.ListN.{length};
-ghost use Rattle.encoder.specs.Calls.{labelsNumber, labelsOutput};
+ghost use Rattle.encoder.specs.Calls.{encodeNumber, encodeWorkspace, encodeOutput, labelsNumber, labelsOutput};
 use bits::checks;
 
 mod columns;
+mod inner;
+
+// The codeword of an information block.
+// Checks: 1; 2, the block has K bits; 3, each is 0 or 1; 4, the workspace has at least I bytes; 5, the output has at least N bytes.
+// Afterwards the first I bytes of work are the outer kept bits before interleaving, the first N bytes of out are the codeword, and the
+// others are as they were; on refusal all are.
+pub fn encode(format: u64, block: &[u8], work: &mut [u8], out: &mut [u8]) -> u8
+    ensures number { λ r. ⌜ r ≡ encodeNumber format (now (block .entry)) (length (now (work .entry))) (length (now (out .entry))) ⌝ }
+    ensures workspace { λ _. ⌜ now (work .exit) ≡ encodeWorkspace format (now (block .entry)) (now (work .entry)) (now (out .entry)) ⌝ }
+    ensures output { λ _. ⌜ now (out .exit) ≡ encodeOutput format (now (block .entry)) (now (work .entry)) (now (out .entry)) ⌝ }
+{
+    let refused = check_encode(format, block, work.len(), out.len());
+    if refused != 0 {
+        return refused;
+    }
+    trellis::steps::outer(block, work);
+    inner::encode(format, work, out);
+    0
+}
+
+// The number of the first check of encode that fails, 0 if none does.
+fn check_encode(format: u64, block: &[u8], work: usize, out: usize) -> u8
+    ensures { λ r. ⌜ r ≡ encodeNumber format (now (block .entry)) work out ⌝ }
+{
+    let acm::Found::Record(f) = acm::lookup(format) else {
+        return checks::FORMAT;
+    };
+    if block.len() != f.k {
+        return checks::LENGTH;
+    }
+    if !bits::all_at_most(block, 1) {
+        return checks::ELEMENT;
+    }
+    if work < f.i {
+        return checks::WORKSPACE;
+    }
+    if out < f.n {
+        return checks::OUTPUT;
+    }
+    0
+}
 
 // The labels of a codeword: 8,100 numbers of m bits.
 // Checks: 1; 2, the codeword has N bits; 3, each is 0 or 1; 5, the output has at least 8,100 bytes.

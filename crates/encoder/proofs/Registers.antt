@@ -1,0 +1,99 @@
+-- A loop that fills two registers of one buffer in order, the upper up to S and the lower from S to N, told by what is left to store in each:
+-- the buffer with vs stored from n on and ws from q on is F.
+use mathlib.Core.Path.{_≡_, refl, sym, ap, subst₂, _∙_}
+use mathlib.Core.Bool.{Bool, true, false, false≢true}
+use mathlib.Core.List.{List, [], _∷_, _++_}
+use Prim.Native.Nat.{ℕ, suc, _+_, _≤_, _<_}
+use native.Mathlib.Numerals.{add-one}
+use native.Mathlib.Omega.{arith}
+use lib.ListN.{length, drop, set, length-set, length-append}
+use lib.Seq.{sets, sets-eq, set-comm}
+use Rattle.bits.specs.Choice.{if_then_else_}
+use Rattle.bits.proofs.Cases.{by-cases}
+use Rattle.bits.proofs.Fill.{sets-front}
+
+-- a store behind the stretch that is still to be stored may come first
+set-sets : (l : List ℕ) (n : ℕ) (vs : List ℕ) (q y : ℕ) → n + length vs ≤ q → set (sets l n vs) q y ≡ sets (set l q y) n vs
+set-sets l n [] q y h = refl
+set-sets l n (v ∷ vs) q y h =
+    set-sets (set l n v) (suc n) vs q y (omega arith)
+    ∙ ap (λ (m : List ℕ). sets m (suc n) vs) (set-comm l n q v y (λ e. omega arith))
+
+-- one stretch stored behind another
+sets-join : (l : List ℕ) (n : ℕ) (vs ws : List ℕ) → sets (sets l n vs) (n + length vs) ws ≡ sets l n (vs ++ ws)
+sets-join l n [] ws = ap (λ (k : ℕ). sets l k ws) (omega arith)
+sets-join l n (v ∷ vs) ws =
+    let e : n + suc (length vs) ≡ suc n + length vs = omega arith in
+    rw e (sets-join (set l n v) (suc n) vs ws)
+
+pub record Two (room S N : ℕ) (F out : List ℕ) (n : ℕ) (vs : List ℕ) (q : ℕ) (ws : List ℕ) : Type 0 where
+  pub same : length out ≡ room
+  pub upper : n + length vs ≡ S
+  pub lower : q + length ws ≡ N
+  pub apart : S ≤ q
+  pub rest : sets (sets out n vs) q ws ≡ F
+
+pub two-start : (out vs ws : List ℕ) (S N : ℕ) → length vs ≡ S → S + length ws ≡ N
+    → Two (length out) S N (sets out 0 (vs ++ ws)) out 0 vs S ws
+two-start out vs ws S N e d =
+    let z : 0 + length vs ≡ S = omega arith in
+    record {
+      same = refl;
+      upper = omega arith;
+      lower = d;
+      apart = omega arith;
+      rest = ap (λ (k : ℕ). sets (sets out 0 vs) k ws) (sym z) ∙ sets-join out 0 vs ws;
+    }
+
+-- what is left may be written another way
+pub two-as : {room S N : ℕ} {F out : List ℕ} {n q : ℕ} {vs us ws ts : List ℕ} → vs ≡ us → ws ≡ ts → Two room S N F out n vs q ws → Two room S N F out n us q ts
+two-as {room} {S} {N} {F} {out} {n} {q} e d t = subst₂ (λ (a b : List ℕ). Two room S N F out n a q b) e d t
+
+module _ {room S N : ℕ} {F out : List ℕ} {n q : ℕ} where
+  two-store-upper : {x : ℕ} {vs ws : List ℕ} → Two room S N F out n (x ∷ vs) q ws → Two room S N F (set out n x) (n + 1) vs q ws
+  two-store-upper {x} t = record {
+    same = length-set out n x ∙ t .same;
+    upper = omega (arith, t .upper);
+    lower = t .lower;
+    apart = t .apart;
+    rest = rw (add-one n) (t .rest);
+  }
+
+  two-store-lower : {y : ℕ} {vs ws : List ℕ} → Two room S N F out n vs q (y ∷ ws) → Two room S N F (set out q y) n vs (q + 1) ws
+  two-store-lower {y} {vs} {ws} t = record {
+    same = length-set out q y ∙ t .same;
+    upper = t .upper;
+    lower = omega (arith, t .lower);
+    apart = omega (arith, t .apart);
+    rest = rw (add-one q) (ap (λ (l : List ℕ). sets l (suc q) ws) (sym (set-sets out n vs q y (omega (arith, t .upper, t .apart)))) ∙ t .rest);
+  }
+
+-- with a bit that is stored only if it is kept
+module _ {room S N : ℕ} {F out : List ℕ} {n q : ℕ} where
+  pub two-put-upper : (kept : Bool) (x : ℕ) (vs : List ℕ) {ws : List ℕ} → Two room S N F out n (if kept then x ∷ vs else vs) q ws
+      → Two room S N F (if kept then set out n x else out) (if kept then n + 1 else n) vs q ws
+  two-put-upper true x vs t = two-store-upper t
+  two-put-upper false x vs t = t
+
+  pub two-put-lower : (kept : Bool) (y : ℕ) {vs : List ℕ} (ws : List ℕ) → Two room S N F out n vs q (if kept then y ∷ ws else ws)
+      → Two room S N F (if kept then set out q y else out) n vs (if kept then q + 1 else q) ws
+  two-put-lower true y ws t = two-store-lower t
+  two-put-lower false y ws t = t
+
+  pub two-room-upper : (kept : Bool) (x : ℕ) (vs : List ℕ) {ws : List ℕ} → N ≤ room → Two room S N F out n (if kept then x ∷ vs else vs) q ws
+      → kept ≡ true → n < length out
+  two-room-upper true x vs fits t e = omega (arith, t .same, t .upper, t .lower, t .apart)
+  two-room-upper false x vs fits t e = absurd (false≢true e)
+
+  pub two-room-lower : (kept : Bool) (y : ℕ) {vs : List ℕ} (ws : List ℕ) → N ≤ room → Two room S N F out n vs q (if kept then y ∷ ws else ws)
+      → kept ≡ true → q < length out
+  two-room-lower true y ws fits t e = omega (arith, t .same, t .lower)
+  two-room-lower false y ws fits t e = absurd (false≢true e)
+
+-- at the end two bits are left in each
+module _ {room S N : ℕ} {F out : List ℕ} {n q a b y z : ℕ} where
+  pub two-end : Two room S N F out n (a ∷ b ∷ []) q (y ∷ z ∷ []) → set (set (set (set out n a) (n + 1) b) q y) (q + 1) z ≡ F
+  two-end t = two-store-lower (two-store-lower (two-store-upper (two-store-upper t))) .rest
+
+  pub two-end-room : N ≤ room → Two room S N F out n (a ∷ b ∷ []) q (y ∷ z ∷ []) → (n + 1 < length out) × (q + 1 < length out)
+  two-end-room fits t = (omega (arith, t .same, t .upper, t .lower, t .apart), omega (arith, t .same, t .lower))
