@@ -1,12 +1,12 @@
 -- What holds of every format's record, from one test over table 4-3.
 use mathlib.Core.Path.{_≡_, refl, sym, ap, subst}
-use mathlib.Core.Bool.{Bool, true, false, _&&_}
+use mathlib.Core.Bool.{Bool, true, false}
 use mathlib.Core.List.{List, [], _∷_}
 use Prim.Native.Nat.{ℕ, suc, _+_, _-_, _*_, _%_, _≤_, _<_}
 use native.Mathlib.Omega.{arith}
-use borrow.Author.Tests.{leb-true, ltb-true, eqb-true, le-leb, lt-leb}
+use borrow.Author.Tests.{leb-true, ltb-true, eqb-true}
 use lib.Dec.{leb, ltb, eqb, lit<}
-use lib.ListN.{getD, length}
+use lib.ListN.{getD}
 use Rattle.bits.specs.Checks.{passed, badFormat}
 use Rattle.bits.proofs.Cases.{by-cases}
 use Rattle.bits.proofs.Table.{left-true, right-true, every, every-at, below, below-at}

@@ -7,6 +7,9 @@ mod table;
 
 pub use table::Format;
 
+// The number of the last ACM format.
+pub const LAST: u64 = 27;
+
 // The answer of a lookup.
 pub enum Found {
     Record(Format),
@@ -21,7 +24,7 @@ pub fn lookup(format: u64) -> Found
     if format < 1 {
         return Found::NoFormat;
     }
-    if 27 < format {
+    if LAST < format {
         return Found::NoFormat;
     }
     Found::Record(steps::parameters(format))

@@ -1,6 +1,6 @@
 -- Laws of the scan for illegal elements.
-use mathlib.Core.Path.{_≡_, refl}
-use mathlib.Core.Bool.{Bool, true, false, false≢true}
+use mathlib.Core.Path.{_≡_}
+use mathlib.Core.Bool.{true, false, false≢true}
 use mathlib.Core.List.{List, [], _∷_, _++_}
 use Prim.Native.Nat.{ℕ, zero, suc, zero-le, _+_, _≤_, _<_}
 use borrow.Author.Tests.{le-leb, lt-leb, leb-true}

@@ -1,8 +1,8 @@
 -- Laws of sums modulo 2, of bits and of lists of bits.
-use mathlib.Core.Path.{_≡_, refl, ap, _∙_}
-use mathlib.Core.Bool.{Bool, true}
+use mathlib.Core.Path.{_≡_, refl, ap}
+use mathlib.Core.Bool.{true}
 use mathlib.Core.List.{List, [], _∷_, _++_}
-use Prim.Native.Nat.{ℕ, zero, suc, _+_, _%_, _≤_}
+use Prim.Native.Nat.{ℕ, zero, suc, _%_}
 use native.Mathlib.Nat.{mod-add-mod, add-mod-mod}
 use native.Mathlib.Omega.{arith}
 use borrow.Author.Tests.{le-leb}

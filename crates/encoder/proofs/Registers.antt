@@ -6,11 +6,9 @@ use mathlib.Core.List.{List, [], _∷_, _++_}
 use Prim.Native.Nat.{ℕ, suc, _+_, _≤_, _<_}
 use native.Mathlib.Numerals.{add-one}
 use native.Mathlib.Omega.{arith}
-use lib.ListN.{length, drop, set, length-set, length-append}
-use lib.Seq.{sets, sets-eq, set-comm}
+use lib.ListN.{length, set, length-set}
+use lib.Seq.{sets, set-comm}
 use Rattle.bits.specs.Choice.{if_then_else_}
-use Rattle.bits.proofs.Cases.{by-cases}
-use Rattle.bits.proofs.Fill.{sets-front}
 
 -- a store behind the stretch that is still to be stored may come first
 set-sets : (l : List ℕ) (n : ℕ) (vs : List ℕ) (q y : ℕ) → n + length vs ≤ q → set (sets l n vs) q y ≡ sets (set l q y) n vs

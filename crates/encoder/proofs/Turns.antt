@@ -1,15 +1,14 @@
 -- The inner encoder's loop: what is left of each register at time i, a turn, and the end.
 use mathlib.Core.Path.{_≡_, refl, sym, ap, _∙_}
-use mathlib.Core.Bool.{Bool, true, false}
+use mathlib.Core.Bool.{Bool, true}
 use mathlib.Core.List.{List, [], _∷_, _++_}
-use Prim.Native.Nat.{ℕ, zero, suc, _+_, _-_, _%_, _≤_, _<_}
+use Prim.Native.Nat.{ℕ, suc, _+_, _-_, _%_, _≤_, _<_}
 use native.Mathlib.Omega.{arith}
 use borrow.Author.Tests.{leb-true, leb-false}
 use lib.Dec.{eqb, leb}
 use lib.ListN.{length, getD, set}
 use lib.Seq.{sets}
 use Rattle.bits.specs.Choice.{if_then_else_}
-use Rattle.bits.specs.Sum.{_⊕_}
 use Rattle.bits.proofs.Cases.{by-cases}
 use Rattle.trellis.specs.Trellis.{State, zero-state, parity, next, parities, ends, termination, terminationOf}
 use Rattle.trellis.specs.declared.Termination.{Termination}

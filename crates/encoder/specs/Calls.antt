@@ -1,5 +1,4 @@
 -- The calls: the number that each answers, and what it leaves in each buffer.
-use mathlib.Core.Bool.{Bool}
 use mathlib.Core.List.{List, [], _∷_, _++_}
 use Prim.Native.Nat.{ℕ}
 use lib.Dec.{eqb, leb}

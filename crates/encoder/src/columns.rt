@@ -3,7 +3,7 @@ ghost use mathlib.Core.Path.{_≡_};
 ghost use mathlib.Core.Bool.{true};
 ghost use mathlib.Core.List.{_++_};
 ghost use Prim.Native.Nat.{ℕ, _+_, _*_, _≤_, _<_};
-ghost use lib.ListN.{length, getD, drop, take, replicate};
+ghost use lib.ListN.{length, getD, drop, replicate};
 ghost use Rattle.bits.specs.Legal.{allBits};
 ghost use Rattle.acm.specs.Formats.{symbols};
 ghost use Rattle.encoder.specs.Labels.{labels};

@@ -2,7 +2,7 @@
 use mathlib.Core.Path.{_≡_, refl, sym, ap, _∙_}
 use mathlib.Core.Bool.{Bool, true}
 use mathlib.Core.List.{List, [], _∷_}
-use Prim.Native.Nat.{ℕ, zero, suc, _+_, _-_, _*_, _/_, _%_}
+use Prim.Native.Nat.{ℕ, suc, _+_, _-_, _*_, _/_, _%_}
 use native.Mathlib.Omega.{arith}
 use borrow.Author.Tests.{eqb-true}
 use lib.Dec.{eqb}
@@ -11,8 +11,8 @@ use Rattle.bits.specs.Permutation.{Permutes}
 use Rattle.bits.proofs.Table.{every, below}
 use Rattle.acm.specs.Formats.{formats, formatOf, isFormat}
 use Rattle.acm.specs.declared.table.Format.{Format}
-use Rattle.acm.proofs.Laws.{Sound, format-sound, format-test}
-use Rattle.puncture.specs.Puncture.{period, pattern, survives, keptAt, punctured, rateMatched}
+use Rattle.acm.proofs.Laws.{format-sound, format-test}
+use Rattle.puncture.specs.Puncture.{period, pattern, survives, punctured, rateMatched}
 use Rattle.puncture.specs.Table42.{positions}
 use Rattle.puncture.proofs.Matched.{rate-matched-length}
 use Rattle.puncture.proofs.Places.{places, places-permuted, places-periods, kept-places}

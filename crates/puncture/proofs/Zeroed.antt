@@ -1,10 +1,10 @@
 -- The pattern: a turn of the loop that writes it, and that for S_sur from 200 to 300 it has S_sur ones among its 300 bits.
-use mathlib.Core.Path.{_≡_, refl, sym, ap, _∙_}
-use mathlib.Core.Bool.{Bool, true, false, not, _&&_}
+use mathlib.Core.Path.{_≡_, refl, sym, _∙_}
+use mathlib.Core.Bool.{true, not}
 use mathlib.Core.List.{List, [], _∷_}
 use Prim.Native.Nat.{ℕ, zero, suc, _+_, _-_, _≤_, _<_}
 use native.Mathlib.Omega.{arith}
-use borrow.Author.Tests.{eqb-false, eq-eqb, not-true}
+use borrow.Author.Tests.{eqb-false, not-true}
 use lib.Dec.{eqb}
 use lib.ListN.{length, getD, drop, take, set, replicate, length-set, length-replicate, getD-replicate}
 use lib.Seq.{getD-set-other, getD-take, length-take-le}

@@ -1,12 +1,12 @@
 -- Linearity: a run over the sum of two lists is the sum of their runs.
-use mathlib.Core.Path.{_≡_, refl, sym, ap, ap₂, _∙_}
+use mathlib.Core.Path.{_≡_, refl, sym, ap, _∙_}
 use mathlib.Core.List.{List, [], _∷_, _++_}
 use Prim.Native.Nat.{ℕ}
 use native.Mathlib.Omega.{arith}
 use lib.ListN.{length}
 use Rattle.bits.specs.Sum.{_⊕_, _⊕*_}
 use Rattle.bits.proofs.Sums.{interchange, ⊕*-append}
-use Rattle.trellis.specs.Trellis.{State, zero-state, parity, next, run, parities, ends, terminating, termination, terminatedFrom, terminated, kept, outerFrom, outer}
+use Rattle.trellis.specs.Trellis.{State, zero-state, parity, next, run, parities, ends, terminating, termination, terminated, kept, outer}
 
 -- states add bit by bit
 infixl 68 _⊕ₛ_

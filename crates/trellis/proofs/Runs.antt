@@ -1,13 +1,12 @@
 -- Runs over joined lists, their lengths, and where a terminated run ends.
 use mathlib.Core.Path.{_≡_, refl, ap, _∙_}
-use mathlib.Core.Bool.{Bool, true}
+use mathlib.Core.Bool.{true}
 use mathlib.Core.List.{List, [], _∷_, _++_}
 use Prim.Native.Nat.{ℕ, suc, _+_, _*_}
 use native.Mathlib.Omega.{arith}
 use borrow.Author.Tests.{le-leb}
 use lib.ListN.{length, length-append}
 use Rattle.bits.specs.Legal.{allBits}
-use Rattle.bits.specs.Sum.{_⊕_}
 use Rattle.bits.proofs.Legal.{legal-append}
 use Rattle.trellis.specs.Trellis.{State, zero-state, parity, next, run, parities, ends, terminating, termination, terminatedFrom, terminated}
 

@@ -1,10 +1,9 @@
 -- What is left to store at r are 8,100 - r zeros.
 use mathlib.Core.Path.{_≡_, ap}
-use mathlib.Core.List.{List}
 use Prim.Native.Nat.{ℕ, suc, _+_, _-_, _≤_}
 use native.Mathlib.Omega.{arith}
 use borrow.Author.Needs.{needs}
-use lib.ListN.{length, replicate, length-replicate}
+use lib.ListN.{replicate}
 use Rattle.bits.proofs.Fill.{Left, left-start, left-as, left-store, left-end}
 use Rattle.acm.specs.Formats.{symbols}
 use Rattle.encoder.proofs.columns.clear.Statement.{statement}

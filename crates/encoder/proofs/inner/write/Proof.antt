@@ -1,20 +1,18 @@
 -- At time i, what is left to store are the registers of the bits that are yet to be read, from the present state and counter.
-use mathlib.Core.Path.{_≡_, refl, sym, ap, _∙_}
+use mathlib.Core.Path.{refl, sym, ap, _∙_}
 use mathlib.Core.List.{List, _++_}
-use Prim.Native.Nat.{ℕ, _+_, _-_, _*_, _%_, _≤_, _<_}
+use Prim.Native.Nat.{ℕ, _+_, _-_, _≤_, _<_}
 use native.Mathlib.Omega.{arith}
 use borrow.Author.Needs.{needs}
 use lib.ListN.{length, length-set}
 use lib.Seq.{sets}
 use Rattle.acm.specs.Formats.{M}
 use Rattle.trellis.specs.Trellis.{zero-state}
-use Rattle.puncture.specs.Puncture.{period, pattern}
+use Rattle.puncture.specs.Puncture.{pattern}
 use Rattle.puncture.specs.declared.steps.Matching.{Matching}
 use Rattle.puncture.proofs.Zeroed.{pattern-length}
 use Rattle.interleaver.specs.Interleaver.{permuted}
 use Rattle.encoder.specs.Codeword.{readFrom, lower}
-use Rattle.encoder.specs.Inner.{Lent}
-use Rattle.encoder.proofs.Registers.{Two}
 use Rattle.encoder.proofs.Turns.{Going, upperFrom, going-start, upper-room, lower-room, going-turn, end-room, end-gives, counter-low}
 use Rattle.encoder.proofs.inner.write.Statement.{statement}
 use Rattle.encoder.proofs.inner.write.Tie as tie

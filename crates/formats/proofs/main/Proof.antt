@@ -1,0 +1,50 @@
+-- The loop ends past the last format.
+use Prim.Native.Nat.{_-_, _≤_}
+use borrow.Author.Needs.{needs}
+use Rattle.formats.proofs.main.Statement.{statement}
+use Rattle.formats.proofs.main.Tie as tie
+
+abbrev Inv-loop : tie.InvT-loop
+Inv-loop format₀ format = format ≤ 28
+
+abbrev μ-loop : tie.MeasureT-loop
+μ-loop format₀ format = 28 - format
+
+slice-aggregate-write-all : tie.Need-slice-aggregate-write-all Inv-loop μ-loop
+slice-aggregate-write-all c = search needs
+
+write-all-requires : tie.Need-write-all-requires Inv-loop μ-loop
+write-all-requires c κs = search needs
+
+loop-holds : tie.Need-loop-holds Inv-loop μ-loop
+loop-holds c = search needs
+
+print-line-requires : tie.Need-print-line-requires Inv-loop μ-loop
+print-line-requires c κs = search needs
+
+add-format : tie.Need-add-format Inv-loop μ-loop
+add-format c = search needs
+
+loop-less : tie.Need-loop-less Inv-loop μ-loop
+loop-less c = search needs
+
+loop-again : tie.Need-loop-again Inv-loop μ-loop
+loop-again c = search needs
+
+returns : tie.Need-returns Inv-loop μ-loop
+returns c = search needs
+
+pub main-spec : {M : Type 1} → statement M
+main-spec =
+    tie.close
+    (tie.spec
+    Inv-loop
+    μ-loop
+    slice-aggregate-write-all
+    write-all-requires
+    loop-holds
+    print-line-requires
+    add-format
+    loop-less
+    loop-again
+    returns)
