@@ -54,9 +54,9 @@ pub fn labels(format: u64, codeword: &[u8], out: &mut [u8]) -> u8
     ensures number { λ r. ⌜ r ≡ labelsNumber format (now (codeword .entry)) (length (now (out .entry))) ⌝ }
     ensures output { λ _. ⌜ now (out .exit) ≡ labelsOutput format (now (codeword .entry)) (now (out .entry)) ⌝ }
 {
-    let refused = check_labels(format, codeword, out.len());
-    if refused != 0 {
-        return refused;
+    let number = check_labels(format, codeword, out.len());
+    if number != 0 {
+        return number;
     }
     let f = acm::steps::parameters(format);
     columns::write(f.m, codeword, out);

@@ -1,0 +1,4 @@
+pub mod Laws
+pub mod Sizes
+pub mod Tables
+pub mod Test

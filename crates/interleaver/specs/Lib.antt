@@ -1,0 +1,4 @@
+pub mod AnnexC
+pub mod Interleaver
+pub mod Provenance
+pub mod Tables

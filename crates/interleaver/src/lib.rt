@@ -1,0 +1,83 @@
+// The interleaver (4.3, annex C).
+ghost use mathlib.Core.Path.{_≡_};
+ghost use mathlib.Core.Bool.{true};
+ghost use Prim.Native.Nat.{_*_, _<_};
+ghost use Rattle.acm.specs.Formats.{M};
+ghost use Rattle.interleaver.specs.Interleaver.{permuted, isSize, sizeOf, answerOf, interleavedAt};
+ghost use Rattle.interleaver.specs.Provenance.{provenanceOf, provenanceAt};
+use acm::Found;
+
+mod annex_c;
+pub mod steps;
+
+// A position in the upper register, i of the standard (document 01: a place in the upper register).
+pub struct UpperPosition(pub usize);
+
+// Its interleaved position, π(i) (document 01: an interleaved place). Only the interleaver can make one.
+pub struct InterleavedPosition(usize);
+
+impl InterleavedPosition {
+    // The position as a number.
+    pub fn number(self) -> usize
+        ensures { λ r. ⌜ r ≡ self .0 ⌝ }
+    {
+        self.0
+    }
+}
+
+// The answer of an interleave call.
+pub enum Interleaved {
+    At(InterleavedPosition),
+    NoFormat,
+    Outside,
+}
+
+// The interleaved position π(i) of position i, for any format number and any i.
+// Checks: 1, 8.
+pub fn interleave(format: u64, position: UpperPosition) -> Interleaved
+    ensures { λ r. ⌜ answerOf r ≡ interleavedAt format (position .0) ⌝ }
+{
+    let Found::Record(entry) = acm::lookup(format) else {
+        return Interleaved::NoFormat;
+    };
+    let i = position.0;
+    if entry.i <= i {
+        return Interleaved::Outside;
+    }
+    Interleaved::At(in_size(entry.w, position))
+}
+
+// The interleaved position in the size with W = w.
+fn in_size(w: usize, position: UpperPosition) -> InterleavedPosition
+    requires { ⌜ isSize w ≡ true ⌝ }
+    requires { ⌜ position .0 < M * w ⌝ }
+    ensures { λ r. ⌜ r .0 ≡ permuted (sizeOf w .α) (sizeOf w .β) (position .0) ⌝ }
+{
+    let mut alpha = [0u16; steps::WIDEST];
+    let mut beta = [0u8; steps::WIDEST];
+    steps::load(w, &mut alpha, &mut beta);
+    steps::interleaved(&alpha[..w], &beta[..w], position)
+}
+
+// Where the rows of a format's interleaver come from.
+pub enum Source {
+    // each of them from the standard
+    Published,
+    // some of them stand in for published ones
+    StandIn,
+    NoFormat,
+}
+
+// Whether the interleaver of a format has rows that stand in for published ones, for any format number.
+// Checks: 1.
+pub fn provenance(format: u64) -> Source
+    ensures { λ r. ⌜ provenanceOf r ≡ provenanceAt format ⌝ }
+{
+    let Found::Record(entry) = acm::lookup(format) else {
+        return Source::NoFormat;
+    };
+    if steps::stand_in(entry.w) {
+        return Source::StandIn;
+    }
+    Source::Published
+}
