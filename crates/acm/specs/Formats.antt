@@ -1,7 +1,7 @@
 -- The ACM formats (table 4-3), and the lookup's answer.
 use mathlib.Core.Bool.{Bool, _&&_}
 use mathlib.Core.List.{List, [], _∷_}
-use Prim.Native.Nat.{ℕ}
+use Prim.Native.Nat.{ℕ, _-_, _^_}
 use lib.Dec.{leb}
 use lib.ListN.{getD}
 use Rattle.bits.specs.Checks.{passed, badFormat}
@@ -61,6 +61,10 @@ isFormat f = leb 1 f && leb f 27
 -- the record of format f, and one of zeros where there is no such format
 unfoldable pub formatOf : ℕ → Format
 formatOf f = getD (none ∷ formats) f none
+
+-- the largest label of format f: m bits, all 1
+abbrev pub topLabel : ℕ → ℕ
+topLabel f = 2 ^ (formatOf f .m) - 1
 
 -- an answer, as document 01 numbers it: a refusal has 0 in every other field
 pub record Answer : Type 0 where

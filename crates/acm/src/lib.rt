@@ -1,6 +1,6 @@
 // The 27 ACM formats (tables 4-1 and 4-3).
 ghost use mathlib.Core.Path.{_≡_};
-ghost use Rattle.acm.specs.Formats.{answerOf, lookedUp};
+ghost use Rattle.acm.specs.Formats.{answerOf, lookedUp, topLabel};
 
 pub mod steps;
 mod table;
@@ -9,6 +9,9 @@ pub use table::Format;
 
 // The number of the last ACM format.
 pub const LAST: u64 = 27;
+
+// Labels of a codeword (4.1).
+pub const SYMBOLS: usize = 8100;
 
 // The answer of a lookup.
 pub enum Found {
@@ -28,4 +31,14 @@ pub fn lookup(format: u64) -> Found
         return Found::NoFormat;
     }
     Found::Record(steps::parameters(format))
+}
+
+// The largest label of an ACM format, 2^m - 1, for any number: 0 where there is no such format.
+pub fn top_label(format: u64) -> u8
+    ensures { λ r. ⌜ r ≡ topLabel format ⌝ }
+{
+    let Found::Record(record) = lookup(format) else {
+        return 0;
+    };
+    255 >> (8 - record.m)
 }

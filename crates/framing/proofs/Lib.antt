@@ -1,0 +1,7 @@
+pub mod Checked
+pub mod Descriptor
+pub mod Frames
+pub mod Marker
+pub mod Sections
+pub mod Slots
+pub mod Words

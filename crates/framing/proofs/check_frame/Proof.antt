@@ -1,0 +1,85 @@
+-- Each return rewrites with the checks that led there.
+use mathlib.Core.Path.{_≡_, sym, ap, _∙_}
+use mathlib.Core.Bool.{true}
+use Prim.Native.Nat.{ℕ}
+use borrow.Author.Needs.{needs}
+use borrow.Author.Tests.{le-leb, lt-leb, eq-eqb, ne-eqb, not-true, not-false}
+use Rattle.bits.specs.Legal.{allAtMost}
+use Rattle.acm.specs.Formats.{isFormat, topLabel, answerOf}
+use Rattle.acm.proofs.Laws.{found, not-found}
+use Rattle.framing.specs.Calls.{frameNumber}
+use Rattle.framing.proofs.check_frame.Statement.{statement}
+use Rattle.framing.proofs.check_frame.Tie as tie
+
+known : (c : tie.After-enum-told) → isFormat (c .before .before .before .before .args .format) ≡ true
+known c =
+    let l = c .before .before in
+    found (l .before .before .args .format) _ (ap answerOf (sym (c .enum-told .given .1)) ∙ l .lookup .ensures) .0
+
+legal : (c : tie.After-all-at-most)
+    → c .all-at-most .result
+    ≡ allAtMost (topLabel (c .before .before .before .before .before .before .before .args .format)) (c .before .before .before .before .before .before .before .args .labels .now)
+legal c =
+    let a = c .before .before .before .before .before .before .before .args in
+    c .all-at-most .ensures ∙ ap (λ (top : ℕ). allAtMost top (a .labels .now)) (c .before .top-label .ensures)
+
+lookup-requires : tie.Need-lookup-requires
+lookup-requires c κs = search needs
+
+enum-told : tie.Need-enum-told
+enum-told c = search needs
+
+enum-told-2 : tie.Need-enum-told-2
+enum-told-2 c = search needs
+
+returns : tie.Need-returns
+unfolding frameNumber
+returns c =
+    let l = c .before .before in
+    let f = l .before .before .args .format in
+    simp (not-found f (ap answerOf (sym (c .enum-told2 .given .1)) ∙ l .lookup .ensures))
+
+returns-2 : tie.Need-returns-2
+unfolding frameNumber
+returns-2 c = simp (known (c .before), ne-eqb _ _ (c .if1 .taken))
+
+top-label-requires : tie.Need-top-label-requires
+top-label-requires c κs = search needs
+
+all-at-most-requires : tie.Need-all-at-most-requires
+all-at-most-requires c κs = search needs
+
+returns-3 : tie.Need-returns-3
+unfolding frameNumber
+returns-3 c =
+    let e = c .before .before .before in
+    simp (known (e .before), eq-eqb _ _ (e .if1 .left), sym (legal (c .before)) ∙ not-true _ (c .if2 .taken))
+
+returns-4 : tie.Need-returns-4
+unfolding frameNumber
+returns-4 c =
+    let e = c .before .before .before .before in
+    simp
+    (known (e .before), eq-eqb _ _ (e .if1 .left), sym (legal (c .before .before)) ∙ not-false _ (c .before .if2 .left), lt-leb _ _ (c .if3 .taken))
+
+returns-5 : tie.Need-returns-5
+unfolding frameNumber
+returns-5 c =
+    let e = c .before .before .before .before in
+    simp
+    (known (e .before), eq-eqb _ _ (e .if1 .left), sym (legal (c .before .before)) ∙ not-false _ (c .before .if2 .left), le-leb _ _ (c .if3 .left))
+
+pub check-frame-spec : {M : Type 1} → statement M
+check-frame-spec =
+    tie.close
+    (tie.spec
+    lookup-requires
+    enum-told
+    enum-told-2
+    returns
+    returns-2
+    top-label-requires
+    all-at-most-requires
+    returns-3
+    returns-4
+    returns-5)

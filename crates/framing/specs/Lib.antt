@@ -1,0 +1,5 @@
+pub mod Marker
+pub mod Descriptor
+pub mod Frame
+pub mod Calls
+pub mod Words
