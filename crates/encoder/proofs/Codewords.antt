@@ -11,14 +11,14 @@ use Rattle.bits.specs.Legal.{allBits}
 use Rattle.bits.specs.Permutation.{Permutes}
 use Rattle.bits.proofs.Fill.{sets-front}
 use Rattle.bits.proofs.Legal.{legal-at, legal-append}
-use Rattle.acm.specs.Formats.{M, isFormat, formatOf}
+use Rattle.acm.specs.Formats.{isFormat, formatOf}
 use Rattle.acm.specs.declared.table.Format.{Format}
 use Rattle.acm.proofs.Laws.{format-sound}
 use Rattle.trellis.specs.Trellis.{zero-state, ends, parities, termination, outer}
 use Rattle.trellis.proofs.Runs.{parities-length, parities-bits, termination-bits}
 use Rattle.trellis.proofs.Outer.{outer-length, outer-bits}
 use Rattle.interleaver.specs.Interleaver.{sizeOf, π}
-use Rattle.interleaver.proofs.Sizes.{size-vectors, size-rows, format-size, π-permutes}
+use Rattle.interleaver.proofs.Sizes.{format-vectors, format-length, π-permutes}
 use Rattle.puncture.specs.Puncture.{pattern, survives, punctured, rateMatched}
 use Rattle.puncture.proofs.Count as count
 use Rattle.puncture.proofs.Kept.{kept-bits}
@@ -112,14 +112,12 @@ module _ (f : ℕ) (h : isFormat f ≡ true) {r : Format} {α β : List ℕ} (is
   pub lent-of : {pat : List ℕ} → pat ≡ pattern (formatOf f .survivors) → (work out : List ℕ) → formatOf f .i ≤ length work → formatOf f .n ≤ length out → Lent r α β pat work out
   unfolding π
   lent-of pat-is work out hw ho =
-      let w = formatOf f .w in
-      let z = format-size f h in
       let bits = interleaved (formatOf f) (π f) work in
       let long = read-length (π f) work 0 (formatOf f .i) in
       rw (is, α-is, β-is, pat-is)
       (record {
-        vectors = size-vectors w z;
-        size = format-sound f h .banks ∙ ap (λ (n : ℕ). M * n) (sym (size-rows w z));
+        vectors = format-vectors f h refl refl;
+        size = sym (format-length f h refl refl);
         pattern-is = refl;
         outer-bits = hw;
         deletes = format-sound f h .deletes;

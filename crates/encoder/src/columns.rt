@@ -8,11 +8,10 @@ ghost use Rattle.bits.specs.Legal.{allBits};
 ghost use Rattle.acm.specs.Formats.{symbols};
 ghost use Rattle.encoder.specs.Labels.{labels};
 ghost use Rattle.encoder.specs.Columns.{appended};
-
-pub const SYMBOLS: usize = 8100;
+use acm::SYMBOLS;
 
 // The labels of m bits of a codeword, to the front of out.
-pub fn write(m: usize, codeword: &[u8], out: &mut [u8])
+pub(crate) fn write(m: usize, codeword: &[u8], out: &mut [u8])
     requires { ⌜ (m ≤ 8) × (length (now codeword) ≡ symbols * m) × (allBits (now codeword) ≡ true) × (symbols ≤ length (now out)) ⌝ }
     ensures { λ _. ⌜ now (out .exit) ≡ labels m (now (codeword .entry)) ++ drop symbols (now (out .entry)) ⌝ }
 {

@@ -16,7 +16,7 @@ use interleaver::UpperPosition;
 const PERIOD: usize = 300;
 
 // The codeword of the outer kept bits at the front of work, to the front of out.
-pub fn encode(format: u64, work: &[u8], out: &mut [u8])
+pub(crate) fn encode(format: u64, work: &[u8], out: &mut [u8])
     requires { ⌜ (isFormat format ≡ true) × (formatOf format .i ≤ length (now work)) × (formatOf format .n ≤ length (now out)) ⌝ }
     ensures { λ _. ⌜ now (out .exit) ≡ fromOuter format (now (work .entry)) ++ drop (formatOf format .n) (now (out .entry)) ⌝ }
 {

@@ -76,7 +76,7 @@ fn check_labels(format: u64, codeword: &[u8], room: usize) -> u8
     if !bits::all_at_most(codeword, 1) {
         return checks::ELEMENT;
     }
-    if room < columns::SYMBOLS {
+    if room < acm::SYMBOLS {
         return checks::OUTPUT;
     }
     0

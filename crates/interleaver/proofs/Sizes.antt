@@ -77,7 +77,3 @@ module _ (f : ℕ) (h : isFormat f ≡ true) where
 
     pub format-length : M * length α ≡ formatOf f .i
     format-length = rw (a, α-rows (formatOf f .w) format-size, format-sound f h .banks)
-
-    pub format-π : (i : ℕ) → permuted α β i ≡ π f i
-    unfolding π
-    format-π i = rw (a, b)

@@ -8,7 +8,7 @@ use lib.ListN.{take, length-take}
 use Rattle.acm.specs.Formats.{formatOf}
 use Rattle.acm.specs.declared.table.Format.{Format}
 use Rattle.interleaver.specs.Interleaver.{isSize, sizeOf, widest}
-use Rattle.interleaver.proofs.Sizes.{size-vectors, size-rows, format-size, front-α, front-β}
+use Rattle.interleaver.proofs.Sizes.{size-vectors, α-rows, format-size, front-α, front-β}
 use Rattle.puncture.specs.Puncture.{pattern}
 use Rattle.encoder.proofs.Codewords.{lent-of, written-is}
 use Rattle.encoder.proofs.inner.encode.Statement.{statement}
@@ -28,7 +28,7 @@ module _ (c : tie.After-parameters) where
   narrow : c .parameters .result .w ≤ widest
   narrow =
       let w = c .parameters .result .w in
-      omega (arith, size-vectors w sized .narrow, size-rows w sized)
+      omega (arith, size-vectors w sized .narrow, α-rows w sized)
 
 -- the fronts of the two buffers are the format's vectors
 module _ (c : tie.After-load) where
@@ -56,7 +56,7 @@ slice-aggregate-load-2 c = search needs
 load-requires : tie.Need-load-requires
 load-requires c κs =
     let p = c .before .before in
-    (sized p, narrow p, narrow p)
+    (sized p, (narrow p, narrow p))
 
 pattern-requires : tie.Need-pattern-requires
 pattern-requires c κs = search needs
