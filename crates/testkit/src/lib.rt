@@ -76,6 +76,83 @@ pub fn fill_block(number: u64, format: u64, out: &mut [u8]) {
     fill_seeded((number - 2) % 1000 * 1000 + format % 1000, out);
 }
 
+// The value that buffers are filled with before a call: no bit, no label and no slot of a frame.
+pub const UNTOUCHED: u8 = 170;
+
+// How many bytes of a buffer a call has changed.
+pub fn changed(list: &[u8]) -> u64 {
+    let mut count: u64 = 0;
+    let mut i = 0;
+    while i < list.len() {
+        if list[i] != UNTOUCHED {
+            count += 1;
+        }
+        i += 1;
+    }
+    count
+}
+
+// The same of 16-bit slots.
+pub fn changed_slots(list: &[u16]) -> u64 {
+    let mut count: u64 = 0;
+    let mut i = 0;
+    while i < list.len() {
+        if list[i] != UNTOUCHED as u16 {
+            count += 1;
+        }
+        i += 1;
+    }
+    count
+}
+
+// The first n elements, or all where there are fewer.
+pub fn front(list: &[u8], n: usize) -> &[u8] {
+    let k = least(n, list.len());
+    &list[..k]
+}
+
+pub fn front_mut(list: &mut [u8], n: usize) -> &mut [u8] {
+    let k = least(n, list.len());
+    &mut list[..k]
+}
+
+pub fn front_slots(list: &mut [u16], n: usize) -> &mut [u16] {
+    let k = least(n, list.len());
+    &mut list[..k]
+}
+
+// The elements from a place on, none where there are none.
+pub fn from(list: &[u8], at: usize) -> &[u8] {
+    let k = least(at, list.len());
+    &list[k..]
+}
+
+pub fn from_mut(list: &mut [u8], at: usize) -> &mut [u8] {
+    let k = least(at, list.len());
+    &mut list[k..]
+}
+
+// The element at a place, 0 where there is none.
+pub fn element(list: &[u8], at: usize) -> u64 {
+    if at < list.len() {
+        return wide(list[at]);
+    }
+    0
+}
+
+pub fn set(list: &mut [u8], at: usize, value: u8) {
+    if at < list.len() {
+        list[at] = value;
+    }
+}
+
+// Sets the last of the first n elements.
+pub fn set_last(list: &mut [u8], n: usize, value: u8) {
+    if 0 < n {
+        set(list, n - 1, value);
+    }
+}
+
 // The smaller of two lengths.
 pub fn least(a: usize, b: usize) -> usize
     ensures { λ r. ⌜ r ≤ b ⌝ }
