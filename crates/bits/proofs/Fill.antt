@@ -8,11 +8,12 @@
 --     left-end     with nothing left, the buffer is ws and, behind it, what was there
 use mathlib.Core.Path.{_≡_, refl, ap, subst, _∙_}
 use mathlib.Core.List.{List, [], _∷_, _++_}
-use Prim.Native.Nat.{ℕ, _+_, _≤_, _<_}
+use Prim.Native.Nat.{ℕ, suc, _+_, _≤_, _<_}
+use native.Mathlib.Nat.{add-zero}
 use native.Mathlib.Numerals.{add-one}
 use native.Mathlib.Omega.{arith}
-use lib.ListN.{length, drop, set, length-set}
-use lib.Seq.{sets, sets-eq}
+use lib.ListN.{length, drop, set, length-set, length-append}
+use lib.Seq.{sets, sets-eq, length-sets}
 
 pub record Left (out₀ : List ℕ) (at : ℕ) (ws out : List ℕ) (n : ℕ) (vs : List ℕ) : Type 0 where
   pub same : length out ≡ length out₀
@@ -65,3 +66,31 @@ sets-front ws l room =
 
 pub left-end : {out₀ ws out : List ℕ} {n : ℕ} → length ws ≤ length out₀ → Left out₀ 0 ws out n [] → out ≡ ws ++ drop (length ws) out₀
 left-end {out₀} {ws} room l = l .rest ∙ sets-front ws out₀ room
+
+-- one stretch stored behind another
+pub sets-append : (out : List ℕ) (n : ℕ) (xs ys : List ℕ) → sets out n (xs ++ ys) ≡ sets (sets out n xs) (n + length xs) ys
+sets-append out n [] ys = rw add-zero
+sets-append out n (x ∷ xs) ys =
+    let s : n + suc (length xs) ≡ suc n + length xs = omega arith in
+    rw s (sets-append (set out n x) (suc n) xs ys)
+
+-- several are stored at once
+pub left-stores : {out₀ : List ℕ} {at : ℕ} {ws out : List ℕ} {n : ℕ} (xs vs : List ℕ) → Left out₀ at ws out n (xs ++ vs) → Left out₀ at ws (sets out n xs) (n + length xs) vs
+left-stores {out₀} {at} {ws} {out} {n} xs vs l = record {
+  same = length-sets out n xs ∙ l .same;
+  count = omega (arith, l .count, length-append xs vs);
+  rest = rw (sets-append out n xs vs) at (l .rest);
+}
+
+-- a loop that counts its stores, k of them so far, from `at` on
+pub fill-start : (out₀ : List ℕ) (at : ℕ) (ws : List ℕ) → Left out₀ at ws out₀ (at + 0) ws
+fill-start out₀ at ws = rw add-zero (left-start out₀ at ws)
+
+module _ {out₀ : List ℕ} {at : ℕ} {ws out : List ℕ} where
+  pub fill-next : (k : ℕ) {x : ℕ} {us vs : List ℕ} → us ≡ x ∷ vs → Left out₀ at ws out (at + k) us → Left out₀ at ws (set out (at + k) x) (at + (k + 1)) vs
+  fill-next k e l =
+      let s : at + (k + 1) ≡ at + k + 1 = omega arith in
+      rw s (left-store (left-as e l))
+
+  pub fill-end : {n : ℕ} {us : List ℕ} → us ≡ [] → Left out₀ at ws out n us → out ≡ sets out₀ at ws
+  fill-end e l = left-as e l .rest

@@ -2,13 +2,14 @@
 use mathlib.Core.Path.{_≡_, refl, ap}
 use mathlib.Core.Bool.{true}
 use mathlib.Core.List.{List, [], _∷_, _++_}
-use Prim.Native.Nat.{ℕ, zero, suc, _%_}
+use Prim.Native.Nat.{ℕ, zero, suc, _/_, _%_, _^_}
 use native.Mathlib.Nat.{mod-add-mod, add-mod-mod}
 use native.Mathlib.Omega.{arith}
 use borrow.Author.Tests.{le-leb}
+use lib.Bits.{bitXor, xor-add-and, xor-shr}
 use lib.ListN.{length, getD}
 use Rattle.bits.specs.Legal.{allBits}
-use Rattle.bits.specs.Sum.{_⊕_, _⊕*_}
+use Rattle.bits.specs.Sum.{_⊕_, _⊕*_, bit}
 
 -- the law behind every linearity: sums may be added in either grouping
 pub interchange : (a b c d : ℕ) → (a ⊕ b) ⊕ (c ⊕ d) ≡ (a ⊕ c) ⊕ (b ⊕ d)
@@ -37,3 +38,7 @@ pub ⊕*-bits : (xs ys : List ℕ) → allBits (xs ⊕* ys) ≡ true
 ⊕*-bits [] ys = refl
 ⊕*-bits (x ∷ xs) [] = refl
 ⊕*-bits (x ∷ xs) (y ∷ ys) = rw (le-leb (x ⊕ y) 1 (omega arith)) (⊕*-bits xs ys)
+
+-- the bits of an exclusive or are the sums of the bits
+pub bit-xor : (j a b : ℕ) → bit j (bitXor a b) ≡ bit j a ⊕ bit j b
+bit-xor j a b = rw xor-shr (omega (arith, xor-add-and (a / 2 ^ j) (b / 2 ^ j)))

@@ -1,6 +1,6 @@
 -- Sums modulo 2 (equation 6-3). A bit is the number 0 or 1.
 use mathlib.Core.List.{List, [], _∷_}
-use Prim.Native.Nat.{ℕ, _+_, _%_}
+use Prim.Native.Nat.{ℕ, _+_, _/_, _%_, _^_}
 
 infixl 68 _⊕_
 abbrev pub _⊕_ : ℕ → ℕ → ℕ
@@ -12,3 +12,7 @@ abbrev pub _⊕*_ : List ℕ → List ℕ → List ℕ
 [] ⊕* ys = []
 x ∷ xs ⊕* [] = []
 x ∷ xs ⊕* (y ∷ ys) = x ⊕ y ∷ (xs ⊕* ys)
+
+-- the bit of n that weighs 2^j
+abbrev pub bit : ℕ → ℕ → ℕ
+bit j n = n / 2 ^ j % 2

@@ -10,19 +10,19 @@ use lib.Bits.{bitXor}
 use lib.Dec.{eqb}
 use lib.ListN.{length, getD}
 use lib.Seq.{ext-getD}
-use Rattle.bits.specs.Sum.{_⊕_, _⊕*_}
+use Rattle.bits.specs.Sum.{_⊕_, _⊕*_, bit}
 use Rattle.bits.proofs.Cases.{by-cases}
 use Rattle.bits.proofs.Legal.{legal-at}
-use Rattle.bits.proofs.Sums.{⊕*-length, ⊕*-at}
+use Rattle.bits.proofs.Sums.{⊕*-length, ⊕*-at, bit-xor}
 use Rattle.acm.specs.Formats.{symbols, isFormat, formatOf}
 use Rattle.trellis.specs.Trellis.{outer}
 use Rattle.trellis.proofs.Runs.{terminated-ends}
 use Rattle.interleaver.specs.Interleaver.{π}
 use Rattle.interleaver.proofs.Sizes.{π-permutes}
 use Rattle.encoder.specs.Codeword.{interleaved, codeword}
-use Rattle.encoder.specs.Labels.{labels, bit}
+use Rattle.encoder.specs.Labels.{labels}
 use Rattle.encoder.proofs.Codewords.{codeword-length, codeword-bits}
-use Rattle.encoder.proofs.Linear.{codeword-sum, labels-xor, bit-of-xor}
+use Rattle.encoder.proofs.Linear.{codeword-sum, labels-xor}
 use Rattle.claims.specs.Demand3.{Block, OneWhereDiffer, blockLabels, Linear, Linearity, Termination, Demand3}
 
 -- of two bits, the sum is one exactly where they differ
@@ -71,7 +71,7 @@ module _ (f : ℕ) (h : isFormat f ≡ true) (a b : List ℕ) (A : Block f a) (B
         label-bits = λ r l j s.
             (let x = bit j (getD (blockLabels f a) r 0) in
             let y = bit j (getD (blockLabels f b) r 0) in
-            subst (λ (z : ℕ). (z ≡ 1) ↔ (x ≡ y → ⊥)) (sym (ap (bit j) (numbers r l) ∙ bit-of-xor (getD (blockLabels f a) r 0) (getD (blockLabels f b) r 0) j))
+            subst (λ (z : ℕ). (z ≡ 1) ↔ (x ≡ y → ⊥)) (sym (ap (bit j) (numbers r l) ∙ bit-xor j (getD (blockLabels f a) r 0) (getD (blockLabels f b) r 0)))
             (one-where-differ x y (omega arith) (omega arith)));
         label-numbers = numbers;
       }

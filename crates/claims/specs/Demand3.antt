@@ -8,11 +8,12 @@ use lib.Bits.{bitXor}
 use lib.ListN.{length, getD}
 use Rattle.bits.specs.Legal.{allBits}
 use Rattle.bits.specs.Permutation.{Permutes}
+use Rattle.bits.specs.Sum.{bit}
 use Rattle.acm.specs.Formats.{symbols, isFormat, formatOf}
 use Rattle.trellis.specs.Trellis.{zero-state, ends, terminated, outer}
 use Rattle.interleaver.specs.Interleaver.{π}
 use Rattle.encoder.specs.Codeword.{interleaved, codeword}
-use Rattle.encoder.specs.Labels.{labels, bit}
+use Rattle.encoder.specs.Labels.{labels}
 
 -- an information block of K ones and zeros
 pub record Block (f : ℕ) (block : List ℕ) : Type 0 where
@@ -28,7 +29,7 @@ abbrev pub blockLabels : ℕ → List ℕ → List ℕ
 blockLabels f block = labels (formatOf f .m) (codeword f block)
 
 module _ (f : ℕ) (a b c : List ℕ) where
-  -- linearity of the codeword and of the labels, the latter bit by bit and as an exclusive or of numbers
+  -- linearity of the codeword and of the labels, the latter bit by bit, bit j weighing 2^j, and as an exclusive or of numbers
   pub record Linear : Type 0 where
     pub codewords : OneWhereDiffer (formatOf f .n) (codeword f a) (codeword f b) (codeword f c)
     pub label-bits : (r : ℕ) → r < symbols → (j : ℕ) → j < formatOf f .m

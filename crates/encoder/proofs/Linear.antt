@@ -2,10 +2,10 @@
 use mathlib.Core.Path.{_≡_, refl, sym, ap, ap₂, _∙_}
 use mathlib.Core.Bool.{Bool, true}
 use mathlib.Core.List.{List, [], _∷_, _++_, append-nil}
-use Prim.Native.Nat.{ℕ, zero, suc, _+_, _*_, _/_, _%_, _^_, _≤_, _<_}
+use Prim.Native.Nat.{ℕ, zero, suc, _+_, _*_, _^_, _≤_, _<_}
 use native.Mathlib.Omega.{arith}
 use borrow.Author.Tests.{le-leb}
-use lib.Bits.{bitXor, xor-add-and, xor-lt, xor-block, xor-shr, xor-mod}
+use lib.Bits.{bitXor, xor-add-and, xor-lt, xor-block}
 use lib.ListN.{length, getD}
 use Rattle.bits.specs.Legal.{allBits}
 use Rattle.bits.specs.Sum.{_⊕_, _⊕*_}
@@ -22,7 +22,7 @@ use Rattle.puncture.specs.Puncture.{survives, keptAt, rateMatched}
 use Rattle.puncture.proofs.Kept.{kept-sum, kept-length}
 use Rattle.puncture.proofs.Matched.{rate-matched-sum, rate-matched-length}
 use Rattle.encoder.specs.Codeword.{readFrom, upper, lower, registers, interleaved, fromOuter, codeword}
-use Rattle.encoder.specs.Labels.{rowFrom, valueFrom, value, label, labels, bit}
+use Rattle.encoder.specs.Labels.{rowFrom, valueFrom, value, label, labels}
 use Rattle.encoder.proofs.Codewords.{read-length, upper-long, outer-long}
 use Rattle.encoder.proofs.Rows.{labels-get}
 
@@ -84,13 +84,13 @@ module _ (f : ℕ) (h : isFormat f ≡ true) (a b : List ℕ) (la : length a ≡
       ∙ from-outer-sum f h (outer a) (outer b) (outer-long f h a la ∙ sym (outer-long f h b lb))
 
 -- bits into a number: packing commutes with the exclusive or
-bit-xor : (x y : ℕ) → x ≤ 1 → y ≤ 1 → bitXor x y ≡ x ⊕ y
-bit-xor x y hx hy = omega (arith, xor-add-and x y, xor-lt 1 x y (omega arith) (omega arith))
+xor-of-bits : (x y : ℕ) → x ≤ 1 → y ≤ 1 → bitXor x y ≡ x ⊕ y
+xor-of-bits x y hx hy = omega (arith, xor-add-and x y, xor-lt 1 x y (omega arith) (omega arith))
 
 packed-xor : (n m x y : ℕ) → x ≤ 1 → y ≤ 1 → 2 * bitXor n m + x ⊕ y ≡ bitXor (2 * n + x) (2 * m + y)
 packed-xor n m x y hx hy =
     let double : (k z : ℕ) → k * 2 ^ 1 + z ≡ 2 * k + z = λ k z. omega arith in
-    sym (ap₂ bitXor (sym (double n x)) (sym (double m y)) ∙ xor-block 1 n m x y (omega arith) (omega arith) ∙ omega (arith, bit-xor x y hx hy))
+    sym (ap₂ bitXor (sym (double n x)) (sym (double m y)) ∙ xor-block 1 n m x y (omega arith) (omega arith) ∙ omega (arith, xor-of-bits x y hx hy))
 
 value-from-xor : (n m : ℕ) (a b : List ℕ) → length a ≡ length b → allBits a ≡ true → allBits b ≡ true
     → valueFrom (bitXor n m) (a ⊕* b) ≡ bitXor (valueFrom n a) (valueFrom m b)
@@ -129,9 +129,3 @@ module _ (m : ℕ) (a b : List ℕ) (e : length a ≡ length b) (ha : allBits a 
   -- label r of a sum
   pub labels-xor : getD (labels m (a ⊕* b)) r 0 ≡ bitXor (getD (labels m a) r 0) (getD (labels m b) r 0)
   labels-xor = at (a ⊕* b) ∙ label-xor ∙ ap₂ bitXor (sym (at a)) (sym (at b))
-
-pub bit-of-xor : (n m j : ℕ) → bit j (bitXor n m) ≡ bit j n ⊕ bit j m
-bit-of-xor n m j =
-    ap (λ (k : ℕ). k % 2) (xor-shr n m j)
-    ∙ xor-mod (n / 2 ^ j) (m / 2 ^ j) 1
-    ∙ bit-xor (bit j n) (bit j m) (omega arith) (omega arith)

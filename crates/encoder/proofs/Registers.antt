@@ -8,6 +8,7 @@ use native.Mathlib.Numerals.{add-one}
 use native.Mathlib.Omega.{arith}
 use lib.ListN.{length, set, length-set}
 use lib.Seq.{sets, set-comm}
+use Rattle.bits.proofs.Fill.{sets-append}
 use Rattle.bits.specs.Choice.{if_then_else_}
 
 -- a store behind the stretch that is still to be stored may come first
@@ -16,13 +17,6 @@ set-sets l n [] q y h = refl
 set-sets l n (v ∷ vs) q y h =
     set-sets (set l n v) (suc n) vs q y (omega arith)
     ∙ ap (λ (m : List ℕ). sets m (suc n) vs) (set-comm l n q v y (λ e. omega arith))
-
--- one stretch stored behind another
-sets-join : (l : List ℕ) (n : ℕ) (vs ws : List ℕ) → sets (sets l n vs) (n + length vs) ws ≡ sets l n (vs ++ ws)
-sets-join l n [] ws = ap (λ (k : ℕ). sets l k ws) (omega arith)
-sets-join l n (v ∷ vs) ws =
-    let e : n + suc (length vs) ≡ suc n + length vs = omega arith in
-    rw e (sets-join (set l n v) (suc n) vs ws)
 
 pub record Two (room S N : ℕ) (F out : List ℕ) (n : ℕ) (vs : List ℕ) (q : ℕ) (ws : List ℕ) : Type 0 where
   pub same : length out ≡ room
@@ -40,7 +34,7 @@ two-start out vs ws S N e d =
       upper = omega arith;
       lower = d;
       apart = omega arith;
-      rest = ap (λ (k : ℕ). sets (sets out 0 vs) k ws) (sym z) ∙ sets-join out 0 vs ws;
+      rest = ap (λ (k : ℕ). sets (sets out 0 vs) k ws) (sym z) ∙ sym (sets-append out 0 vs ws);
     }
 
 -- what is left may be written another way

@@ -1,7 +1,7 @@
 -- The row-column interleaver (4.5) and the labels (4.6). The codeword is written column by column into 8,100 rows of m bits; a label is a row,
 -- read as a number whose first bit weighs most.
 use mathlib.Core.List.{List, [], _∷_}
-use Prim.Native.Nat.{ℕ, zero, suc, _+_, _*_, _/_, _%_, _^_}
+use Prim.Native.Nat.{ℕ, zero, suc, _+_, _*_}
 use lib.ListN.{getD}
 use Rattle.acm.specs.Formats.{symbols}
 
@@ -28,7 +28,3 @@ labelsFrom m codeword r (suc k) = label m codeword r ∷ labelsFrom m codeword (
 
 unfoldable pub labels : ℕ → List ℕ → List ℕ
 labels m codeword = labelsFrom m codeword 0 symbols
-
--- bit j of a label, counted from the bit that weighs least
-abbrev pub bit : ℕ → ℕ → ℕ
-bit j n = n / 2 ^ j % 2

@@ -5,11 +5,10 @@ use Prim.Native.Nat.{ℕ, _+_, _≤_}
 use native.Mathlib.Omega.{arith}
 use lib.ListN.{length, drop, length-append, length-map}
 use lib.Seq.{sets}
-use Rattle.bits.proofs.Fill.{sets-front}
+use Rattle.bits.proofs.Fill.{sets-front, sets-append}
 use Rattle.framing.specs.Marker.{marker, markerLength}
 use Rattle.framing.specs.Descriptor.{descriptor, pilotsOff}
 use Rattle.framing.specs.Frame.{frame, frameLabels, frameLength, header, headerCode, headerLength, headerSlots}
-use Rattle.framing.proofs.Slots.{sets-append}
 use Rattle.framing.proofs.Marker.{marker-length}
 use Rattle.framing.proofs.Descriptor.{descriptor-length}
 

@@ -3,5 +3,4 @@ pub mod Descriptor
 pub mod Frames
 pub mod Marker
 pub mod Sections
-pub mod Slots
 pub mod Words

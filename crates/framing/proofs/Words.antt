@@ -3,15 +3,15 @@ use mathlib.Core.Path.{_≡_, refl, ap, _∙_}
 use mathlib.Core.List.{List, [], _∷_, _++_, map-append}
 use Prim.Native.Nat.{ℕ, zero, suc, _+_, _-_, _*_, _/_, _%_, _^_, _≤_, _<_}
 use native.Mathlib.Omega.{arith}
-use lib.Bits.{bitXor, xor-add-and, xor-shr}
+use lib.Bits.{bitXor}
 use lib.ListN.{length, getD, drop, length-map, drop-of-length-le}
 use lib.Seq.{sets}
-use Rattle.bits.specs.Sum.{_⊕_, _⊕*_}
-use Rattle.bits.proofs.Fill.{Left, left-as}
+use Rattle.bits.specs.Sum.{_⊕*_}
+use Rattle.bits.proofs.Fill.{Left, left-as, left-stores}
+use Rattle.bits.proofs.Sums.{bit-xor}
 use Rattle.bits.proofs.Lists.{drop-next}
 use Rattle.framing.specs.Frame.{headerCode, headerSlots}
 use Rattle.framing.specs.Words.{bitsOf, unpacked, wordLength}
-use Rattle.framing.proofs.Slots.{left-stores}
 
 -- the first of the bits that follow k others
 pub bits-next : (n k word : ℕ) → k < n → bitsOf (n - k) word ≡ word / 2 ^ (n - 1 - k) % 2 ∷ bitsOf (n - (k + 1)) word
@@ -30,10 +30,7 @@ length-bits (suc n) word = ap suc (length-bits n word)
 pub bits-xor : (n a b : ℕ) → bitsOf n (bitXor a b) ≡ bitsOf n a ⊕* bitsOf n b
 unfolding bitsOf
 bits-xor zero a b = refl
-bits-xor (suc n) a b = rw (bit, bits-xor n a b)
-  where
-    bit : bitXor a b / 2 ^ n % 2 ≡ (a / 2 ^ n % 2) ⊕ (b / 2 ^ n % 2)
-    bit = rw xor-shr (omega (arith, xor-add-and (a / 2 ^ n) (b / 2 ^ n)))
+bits-xor (suc n) a b = rw (bit-xor n a b, bits-xor n a b)
 
 -- one word's bits as slots, after k of them
 pub slots-next : (k word code bit : ℕ) → k < wordLength → code ≡ headerCode bit → bit ≡ word / 2 ^ (wordLength - 1 - k) % 2

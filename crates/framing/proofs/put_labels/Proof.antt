@@ -3,9 +3,8 @@ use Prim.Native.Nat.{_+_, _-_, _≤_}
 use native.Mathlib.Omega.{arith}
 use borrow.Author.Needs.{needs}
 use lib.ListN.{length, drop, drop-of-length-le}
-use Rattle.bits.proofs.Fill.{Left}
+use Rattle.bits.proofs.Fill.{Left, fill-start, fill-next, fill-end}
 use Rattle.bits.proofs.Lists.{drop-next}
-use Rattle.framing.proofs.Slots.{fill-start, fill-next, fill-end}
 use Rattle.framing.proofs.put_labels.Statement.{statement}
 use Rattle.framing.proofs.put_labels.Tie as tie
 

@@ -1,6 +1,6 @@
 -- The buffer keeps its length.
 use mathlib.Core.Path.{_≡_}
-use Prim.Native.Nat.{_-_, _≤_, _<_}
+use Prim.Native.Nat.{_-_, _≤_}
 use native.Mathlib.Omega.{arith}
 use borrow.Author.Needs.{needs}
 use lib.ListN.{length, length-set}

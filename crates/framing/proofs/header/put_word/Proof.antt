@@ -2,10 +2,9 @@
 use Prim.Native.Nat.{_+_, _-_, _≤_}
 use native.Mathlib.Omega.{arith}
 use borrow.Author.Needs.{needs}
-use Rattle.bits.proofs.Fill.{Left}
+use Rattle.bits.proofs.Fill.{Left, fill-start, fill-next, fill-end}
 use Rattle.framing.specs.Frame.{headerSlots}
 use Rattle.framing.specs.Words.{bitsOf, wordLength}
-use Rattle.framing.proofs.Slots.{fill-start, fill-next, fill-end}
 use Rattle.framing.proofs.Words.{slots-next, slots-none}
 use Rattle.framing.proofs.header.put_word.Statement.{statement}
 use Rattle.framing.proofs.header.put_word.Tie as tie

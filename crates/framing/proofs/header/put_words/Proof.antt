@@ -3,10 +3,9 @@ use Prim.Native.Nat.{_*_, _-_, _≤_}
 use native.Mathlib.Omega.{arith}
 use borrow.Author.Needs.{needs}
 use lib.ListN.{length, drop}
-use Rattle.bits.proofs.Fill.{Left, left-start}
+use Rattle.bits.proofs.Fill.{Left, left-start, fill-end}
 use Rattle.framing.specs.Frame.{headerSlots}
 use Rattle.framing.specs.Words.{unpacked, wordLength}
-use Rattle.framing.proofs.Slots.{fill-end}
 use Rattle.framing.proofs.Words.{words-next, words-none}
 use Rattle.framing.proofs.header.put_words.Statement.{statement}
 use Rattle.framing.proofs.header.put_words.Tie as tie
