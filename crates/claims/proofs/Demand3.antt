@@ -18,7 +18,7 @@ use Rattle.acm.specs.Formats.{symbols, isFormat, formatOf}
 use Rattle.trellis.specs.Trellis.{outer}
 use Rattle.trellis.proofs.Runs.{terminated-ends}
 use Rattle.interleaver.specs.Interleaver.{π}
-use Rattle.interleaver.proofs.Sizes.{π-permutes}
+use Rattle.interleaver.proofs.Formats.{π-permutes}
 use Rattle.encoder.specs.Codeword.{interleaved, codeword}
 use Rattle.encoder.specs.Labels.{labels}
 use Rattle.encoder.proofs.Codewords.{codeword-length, codeword-bits}

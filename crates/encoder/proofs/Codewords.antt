@@ -17,8 +17,9 @@ use Rattle.acm.proofs.Laws.{format-sound}
 use Rattle.trellis.specs.Trellis.{zero-state, ends, parities, termination, outer}
 use Rattle.trellis.proofs.Runs.{parities-length, parities-bits, termination-bits}
 use Rattle.trellis.proofs.Outer.{outer-length, outer-bits}
-use Rattle.interleaver.specs.Interleaver.{sizeOf, π}
-use Rattle.interleaver.proofs.Sizes.{format-vectors, format-length, π-permutes}
+use Rattle.annex_c.specs.AnnexC.{sizeOf}
+use Rattle.interleaver.specs.Interleaver.{π}
+use Rattle.interleaver.proofs.Formats.{format-vectors, format-length, π-permutes}
 use Rattle.puncture.specs.Puncture.{pattern, survives, punctured, rateMatched}
 use Rattle.puncture.proofs.Count as count
 use Rattle.puncture.proofs.Kept.{kept-bits}

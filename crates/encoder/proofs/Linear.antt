@@ -17,7 +17,7 @@ use Rattle.trellis.specs.Trellis.{State, zero-state, ends, parities, terminatio
 use Rattle.trellis.proofs.Linear.{parities-sum, termination-sum, zero-ends-sum, outer-sum}
 use Rattle.trellis.proofs.Runs.{parities-length}
 use Rattle.interleaver.specs.Interleaver.{π}
-use Rattle.interleaver.proofs.Sizes.{π-permutes}
+use Rattle.interleaver.proofs.Formats.{π-permutes}
 use Rattle.puncture.specs.Puncture.{survives, keptAt, rateMatched}
 use Rattle.puncture.proofs.Kept.{kept-sum, kept-length}
 use Rattle.puncture.proofs.Matched.{rate-matched-sum, rate-matched-length}

@@ -6,7 +6,8 @@ use Prim.Native.Nat.{ℕ, _+_, _*_, _≤_, _<_}
 use lib.ListN.{length}
 use Rattle.acm.specs.Formats.{M}
 use Rattle.acm.specs.declared.table.Format.{Format}
-use Rattle.interleaver.specs.Interleaver.{permuted, Vectors}
+use Rattle.annex_c.specs.AnnexC.{Vectors}
+use Rattle.interleaver.specs.Interleaver.{permuted}
 use Rattle.puncture.specs.Puncture.{pattern}
 use Rattle.encoder.specs.Codeword.{upper, lower, interleaved, registers}
 

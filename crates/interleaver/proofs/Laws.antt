@@ -8,7 +8,8 @@ use native.Mathlib.Omega.{arith}
 use lib.ListN.{length, getD}
 use Rattle.bits.specs.Permutation.{Permutes}
 use Rattle.acm.specs.Formats.{M}
-use Rattle.interleaver.specs.Interleaver.{permuted, Vectors}
+use Rattle.annex_c.specs.AnnexC.{Vectors}
+use Rattle.interleaver.specs.Interleaver.{permuted}
 
 -- the row and the bank of a position
 module _ (W i : ℕ) (h : i < M * W) where

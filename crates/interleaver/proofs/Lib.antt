@@ -1,4 +1,2 @@
+pub mod Formats
 pub mod Laws
-pub mod Sizes
-pub mod Tables
-pub mod Test

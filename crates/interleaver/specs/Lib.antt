@@ -1,4 +1,2 @@
-pub mod AnnexC
 pub mod Interleaver
 pub mod Provenance
-pub mod Tables

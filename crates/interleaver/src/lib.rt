@@ -3,11 +3,11 @@ ghost use mathlib.Core.Path.{_≡_};
 ghost use mathlib.Core.Bool.{true};
 ghost use Prim.Native.Nat.{_*_, _<_};
 ghost use Rattle.acm.specs.Formats.{M};
-ghost use Rattle.interleaver.specs.Interleaver.{permuted, isSize, sizeOf, answerOf, interleavedAt};
+ghost use Rattle.annex_c.specs.AnnexC.{isSize, sizeOf};
+ghost use Rattle.interleaver.specs.Interleaver.{permuted, answerOf, interleavedAt};
 ghost use Rattle.interleaver.specs.Provenance.{provenanceOf, provenanceAt};
 use acm::Found;
 
-mod annex_c;
 pub mod steps;
 
 // A position in the upper register, i of the standard (document 01: a place in the upper register).
@@ -53,9 +53,9 @@ fn in_size(w: usize, position: UpperPosition) -> InterleavedPosition
     requires { ⌜ position .0 < M * w ⌝ }
     ensures { λ r. ⌜ r .0 ≡ permuted (sizeOf w .α) (sizeOf w .β) (position .0) ⌝ }
 {
-    let mut alpha = [0u16; steps::WIDEST];
-    let mut beta = [0u8; steps::WIDEST];
-    steps::load(w, &mut alpha, &mut beta);
+    let mut alpha = [0u16; annex_c::steps::WIDEST];
+    let mut beta = [0u8; annex_c::steps::WIDEST];
+    annex_c::steps::load(w, &mut alpha, &mut beta);
     steps::interleaved(&alpha[..w], &beta[..w], position)
 }
 
@@ -76,7 +76,7 @@ pub fn provenance(format: u64) -> Source
     let Found::Record(entry) = acm::lookup(format) else {
         return Source::NoFormat;
     };
-    if steps::stand_in(entry.w) {
+    if annex_c::steps::stand_in(entry.w) {
         return Source::StandIn;
     }
     Source::Published

@@ -4,8 +4,8 @@ use Prim.Native.Nat.{_≤_}
 use native.Mathlib.Omega.{arith}
 use borrow.Author.Needs.{needs}
 use lib.ListN.{length, take, length-take}
-use Rattle.interleaver.specs.Interleaver.{widest, sizeOf}
-use Rattle.interleaver.proofs.Sizes.{size-vectors, α-rows, front-α, front-β}
+use Rattle.annex_c.specs.AnnexC.{widest, sizeOf}
+use Rattle.annex_c.proofs.Sizes.{size-vectors, α-rows, front-α, front-β}
 use Rattle.interleaver.proofs.in_size.Statement.{statement}
 use Rattle.interleaver.proofs.in_size.Tie as tie
 

@@ -10,8 +10,8 @@ use lib.ListN.{length, getD}
 use Rattle.bits.specs.Permutation.{Permutes}
 use Rattle.bits.proofs.Table.{every, every-at, below, below-at}
 use Rattle.acm.specs.Formats.{M}
-use Rattle.interleaver.specs.AnnexC.{Size, sizes}
-use Rattle.interleaver.specs.Interleaver.{Vectors, widest}
+use Rattle.annex_c.specs.Sizes.{Size, sizes}
+use Rattle.annex_c.specs.AnnexC.{Vectors, widest}
 
 pub record Sound (s : Size) : Type 0 where
   pub rows : length (s .α) ≡ s .W

@@ -4,10 +4,10 @@ use Prim.Native.Nat.{_+_, _-_, _≤_}
 use native.Mathlib.Omega.{arith}
 use borrow.Author.Needs.{needs}
 use lib.ListN.{length, drop, drop-of-length-le}
-use Rattle.interleaver.specs.Tables.{sizesBefore, rowsBefore}
-use Rattle.interleaver.proofs.Tables.{sizes-here, rows-here, sizes-next, rows-next}
-use Rattle.interleaver.proofs.steps.locate.Statement.{statement}
-use Rattle.interleaver.proofs.steps.locate.Tie as tie
+use Rattle.annex_c.specs.Flat.{sizesBefore, rowsBefore}
+use Rattle.annex_c.proofs.Flats.{sizes-here, rows-here, sizes-next, rows-next}
+use Rattle.annex_c.proofs.steps.locate.Statement.{statement}
+use Rattle.annex_c.proofs.steps.locate.Tie as tie
 
 abbrev Inv-loop : tie.InvT-loop
 Inv-loop widths w sizes₀ rows₀ sizes rows =

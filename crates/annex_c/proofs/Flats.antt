@@ -11,11 +11,11 @@ use lib.Seq.{take-at, drop-append-add}
 use Rattle.bits.proofs.Cases.{by-cases}
 use Rattle.bits.proofs.Lists.{drop-next}
 use Rattle.bits.proofs.Table.{left-true, right-true, every}
-use Rattle.interleaver.specs.AnnexC.{Size, sizes}
-use Rattle.interleaver.specs.Interleaver.{among, find, isSize, sizeOf}
-use Rattle.interleaver.specs.Tables.{AnnexC, widths, flat, sizesBefore, rowsBefore}
-use Rattle.interleaver.proofs.Sizes.{α-rows, β-rows}
-use Rattle.interleaver.proofs.Test.{Sound, test, tested, test-sound}
+use Rattle.annex_c.specs.Sizes.{Size, sizes}
+use Rattle.annex_c.specs.AnnexC.{among, find, isSize, sizeOf}
+use Rattle.annex_c.specs.Flat.{Tables, widths, flat, sizesBefore, rowsBefore}
+use Rattle.annex_c.proofs.Sizes.{α-rows, β-rows}
+use Rattle.annex_c.proofs.Test.{Sound, test, tested, test-sound}
 
 -- what one more width says of the rest
 module _ (w : ℕ) (l : List ℕ) (k : ℕ) (h : k < length l) where
@@ -110,7 +110,7 @@ module _ (w : ℕ) (h : isSize w ≡ true) where
   rows-fit = omega (arith, α-part .inside, total)
 
   -- in the tables that are lent
-  module _ {ws xs ys : List ℕ} (t : AnnexC ws xs ys) {start : ℕ} (e : start ≡ rowsBefore w ws) where
+  module _ {ws xs ys : List ℕ} (t : Tables ws xs ys) {start : ℕ} (e : start ≡ rowsBefore w ws) where
     pub α-from : Part start w xs (sizeOf w .α)
     α-from = rw (e, t .W, t .α) α-part
 

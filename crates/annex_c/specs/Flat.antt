@@ -4,7 +4,7 @@ use mathlib.Core.List.{List, [], _∷_, _++_, map}
 use Prim.Native.Nat.{ℕ, suc, _+_}
 use lib.Dec.{eqb}
 use Rattle.bits.specs.Choice.{if_then_else_}
-use Rattle.interleaver.specs.AnnexC.{Size, sizes}
+use Rattle.annex_c.specs.Sizes.{Size, sizes}
 
 abbrev pub widths : List Size → List ℕ
 widths = map (λ s. s .W)
@@ -15,7 +15,7 @@ flat v [] = []
 flat v (s ∷ ss) = v s ++ flat v ss
 
 -- three lists that are annex C's tables
-pub record AnnexC (ws xs ys : List ℕ) : Type 0 where
+pub record Tables (ws xs ys : List ℕ) : Type 0 where
   pub W : ws ≡ widths sizes
   pub α : xs ≡ flat (λ s. s .α) sizes
   pub β : ys ≡ flat (λ s. s .β) sizes

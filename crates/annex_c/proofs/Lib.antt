@@ -1,0 +1,3 @@
+pub mod Flats
+pub mod Sizes
+pub mod Test

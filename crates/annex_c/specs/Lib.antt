@@ -1,0 +1,3 @@
+pub mod AnnexC
+pub mod Flat
+pub mod Sizes
