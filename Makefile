@@ -1,10 +1,8 @@
 # make            prove every crate, build the programs and run them
 # make test       all tests; the last step is `rt ci`, from nothing and with the must-fail edits
-# make lib        build/libsccc.a and build/libsccc.so
-# make speed      the library beside a plain encoder
 # make tables     write annex C's tables anew from data/annex-c.csv, and the expected output that rests on them
 # make expected   write the test programs' expected output anew, by the separately written encoder
-.PHONY: all test lib speed tables expected oracle
+.PHONY: all test tables expected oracle
 
 oracle_dir = tests/oracle
 oracle = $(oracle_dir)/target/release/oracle
@@ -17,19 +15,7 @@ test: oracle
 	tools/annex-c-tables --check
 	$(oracle) self-check
 	tests/expected --check
-	tools/build-lib
-	tests/c/run
-	tests/python/run
-	tests/random/run
-	rt check bench
-	tests/bench-lines
 	rt ci
-
-lib:
-	tools/build-lib
-
-speed: lib
-	tests/speed/run
 
 tables:
 	tools/annex-c-tables
