@@ -1,0 +1,42 @@
+-- The structs of the C interface: what the layer below answers, field by field. A refusal there has its number and 0 in every other field, and
+-- so has it here.
+use mathlib.Core.List.{List}
+use Prim.Native.Nat.{ℕ, _*_}
+use lib.Dec.{eqb}
+use Rattle.bits.specs.Checks.{passed}
+use Rattle.bits.specs.Choice.{if_then_else_}
+use Rattle.acm.specs.Formats as acm
+use Rattle.trellis.specs.declared.Stepped as trellis
+use Rattle.interleaver.specs.Interleaver as interleaver
+use Rattle.interleaver.specs.Provenance.{Provenance}
+use Rattle.framing.specs.Calls.{sectionNumber}
+use Rattle.compare.specs.Comparison as compare
+use Rattle.sccc.specs.declared.FormatInfo.{FormatInfo}
+use Rattle.sccc.specs.declared.Stepped.{Stepped}
+use Rattle.sccc.specs.declared.Interleaved.{Interleaved}
+use Rattle.sccc.specs.declared.SectionRange.{SectionRange}
+use Rattle.sccc.specs.declared.Comparison.{Comparison}
+
+abbrev pub infoStruct : acm.Answer → Provenance → FormatInfo
+infoStruct a p =
+    let f = a .format in
+    record { number = a .number; m = f .m; k = f .k; i = f .i; w = f .w; n = f .n; provisional = p .provisional }
+
+abbrev pub stepStruct : trellis.Stepped → Stepped
+stepStruct s = record { number = s .number; systematic = s .systematic; parity = s .parity; state = s .state }
+
+abbrev pub positionStruct : interleaver.Answer → Interleaved
+positionStruct a = record { number = a .number; position = a .position }
+
+abbrev pub refusedRange : ℕ → SectionRange
+refusedRange number = record { number = number; start = 0; length = 0 }
+
+-- the section at a place begins at place × 8100
+abbrev pub rangeStruct : List ℕ → ℕ → SectionRange
+rangeStruct labels place =
+    if eqb (sectionNumber labels place) passed
+    then record { number = passed; start = place * acm.symbols; length = acm.symbols }
+    else refusedRange (sectionNumber labels place)
+
+abbrev pub comparisonStruct : compare.Answer → Comparison
+comparisonStruct a = record { number = a .number; same = if a .same then 1 else 0; count = a .count; first = a .first }
