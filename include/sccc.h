@@ -1,0 +1,196 @@
+/*
+ * sccc.h: the SCCC encoder of CCSDS 131.2-O-1 for C and C++, from an information block to its
+ * codeword, the codeword's labels and a frame without pilots, and a comparison of two label lists.
+ * Link build/libsccc.a or build/libsccc.so (x86-64 Linux).
+ *
+ * Data      A bit is a byte, 0 or 1. A label is a byte below 2^m. A slot of a frame is a uint16_t.
+ *           Places and positions count from 0. K, I, W, N and m are those of the ACM format.
+ *
+ * Answers   A call makes its checks in the order that is given with it. The number of the first
+ *           one that fails is the answer, 0 if none does. Every argument has an answer: a number
+ *           is taken whole, so 257 is not format 1, and any byte may stand in a buffer.
+ *           A refusal has 0 in every other field and leaves every buffer as it was.
+ *
+ * Buffers   A buffer is a pointer and a number of elements, all of which the caller can read, and
+ *           write if the pointer is not to const. No buffer that a call writes overlaps another
+ *           buffer of the same call. Input is unchanged, and so is output past the stated length.
+ *           Where a length is 0 nothing is read or written, and the pointer may be null. A buffer
+ *           of uint16_t is aligned to 2 bytes.
+ *
+ * Threads   The library has no variables, allocates nothing and reads or writes nothing but the
+ *           buffers. Calls may run in several threads at once, as long as no other thread writes
+ *           a call's buffers, or reads those that it writes, before it returns. A call takes less
+ *           than 32 KiB of stack.
+ *
+ * WARNING: FORMATS 12 AND 14 ARE PROVISIONAL. Ten rows of their interleaver's table (annex C, size
+ * 32,040, rows 257 to 266) are missing from the copy of the standard that was at hand. Others stand
+ * in for them, so what sccc_interleave and sccc_encode give for these two formats is not the
+ * standard's. A program learns it from the field provisional of sccc_format's answer.
+ */
+#ifndef SCCC_H
+#define SCCC_H
+
+#include <stddef.h>
+#include <stdint.h>
+
+#ifdef __cplusplus
+extern "C" {
+#endif
+
+/* The checks' numbers. 6 and 7 belong to the bench program's job line, and no call gives them. */
+#define SCCC_PASSED 0          /* every check holds */
+#define SCCC_BAD_FORMAT 1      /* the format is not 1 to 27 */
+#define SCCC_BAD_LENGTH 2      /* an input list is not exactly as long as the call takes */
+#define SCCC_BAD_ELEMENT 3     /* a bit is not 0 or 1, a label not below 2^m, a state not 0 to 3 */
+#define SCCC_SHORT_WORKSPACE 4 /* the workspace is too short */
+#define SCCC_SHORT_OUTPUT 5    /* the output is too short */
+#define SCCC_BAD_PLACE 8       /* the place or position is not inside */
+
+/* Sizes that all formats share, and the largest of those that they do not. */
+#define SCCC_FORMATS 27          /* the formats are 1 to 27 */
+#define SCCC_SYMBOLS 8100        /* labels of a codeword */
+#define SCCC_SECTIONS 16         /* codewords of a frame */
+#define SCCC_FRAME_LABELS 129600 /* labels of a frame */
+#define SCCC_FRAME_SLOTS 129920  /* slots of a frame */
+#define SCCC_MAX_K 43678         /* bits of a block */
+#define SCCC_MAX_I 65520         /* bytes of a workspace */
+#define SCCC_MAX_N 48600         /* bits of a codeword */
+
+/* provisional: 1 where the interleaver has rows that stand in for published ones, else 0 */
+typedef struct {
+    uint64_t number, m, k, i, w, n, provisional;
+} sccc_format_info;
+
+/* state: the state that follows */
+typedef struct {
+    uint64_t number, systematic, parity, state;
+} sccc_stepped;
+
+typedef struct {
+    uint64_t number, position;
+} sccc_interleaved;
+
+/* where the section stands in the caller's labels */
+typedef struct {
+    uint64_t number, start, length;
+} sccc_section_range;
+
+/* same: 1 or 0; count and first are 0 where the lists are the same */
+typedef struct {
+    uint64_t number, same, count, first;
+} sccc_comparison;
+
+/*
+ * sccc_format: an ACM format's parameters (tables 4-1, 4-3).
+ *
+ * Computes  m, the bits of a label; K, of a block; I, the length of the interleaver; W = I / 120;
+ *           N, the bits of a codeword; and whether the format is provisional (see above).
+ * Checks    1  the format is 1 to 27
+ * Success   number is 0, and the other fields are the format's.
+ * Refusal   number is the check's, and every other field is 0.
+ */
+sccc_format_info sccc_format(uint64_t format);
+
+/*
+ * sccc_step: one step of the trellis (section 6, equation 6-4).
+ *
+ * Computes  the systematic bit, the parity bit and the next state. A state is 2 * x0 + x1.
+ * Checks    3  the state is 0 to 3, and the bit 0 or 1
+ * Success   number is 0, and the other fields are the step's.
+ * Refusal   number is the check's, and every other field is 0.
+ */
+sccc_stepped sccc_step(uint64_t state, uint64_t bit);
+
+/*
+ * sccc_interleave: the interleaver (4.3, annex C).
+ *
+ * Computes  the interleaved position of a position in the upper register: the upper register has
+ *           there the outer kept bit of that number.
+ * Checks    1  the format is 1 to 27
+ *           8  the position is below I
+ * Success   number is 0, and position is the interleaved position, below I.
+ * Refusal   number is the check's, and position is 0.
+ */
+sccc_interleaved sccc_interleave(uint64_t format, uint64_t position);
+
+/*
+ * sccc_encode: the encoder (4.1 to 4.4).
+ *
+ * Computes  the codeword of an information block.
+ * Checks    1  the format is 1 to 27
+ *           2  block_len is K
+ *           3  each element of block is 0 or 1
+ *           4  work_len is at least I
+ *           5  out_len is at least N
+ * Success   The answer is 0. The first N bytes of out are the codeword, the first I bytes of work
+ *           the outer kept bits before interleaving, and the bytes after those as they were.
+ * Refusal   The answer is the check's number. work and out are as they were.
+ */
+uint8_t sccc_encode(uint64_t format, const uint8_t *block, size_t block_len, uint8_t *work,
+                    size_t work_len, uint8_t *out, size_t out_len);
+
+/*
+ * sccc_labels: the row-column interleaver and the labels (4.5, 4.6).
+ *
+ * Computes  the 8,100 labels of a codeword, of m bits each; the first bit weighs most.
+ * Checks    1  the format is 1 to 27
+ *           2  codeword_len is N
+ *           3  each element of codeword is 0 or 1
+ *           5  out_len is at least 8,100
+ * Success   The answer is 0. The first 8,100 bytes of out are the labels, and those after them as
+ *           they were.
+ * Refusal   The answer is the check's number. out is as it was.
+ */
+uint8_t sccc_labels(uint64_t format, const uint8_t *codeword, size_t codeword_len, uint8_t *out,
+                    size_t out_len);
+
+/*
+ * sccc_frame: the physical layer frame without pilots (5).
+ *
+ * Computes  the slots of a frame: 256 bits of the frame marker, 64 bits of the frame descriptor,
+ *           then the labels of sixteen codewords. A marker or descriptor bit is 256 for 0 and 257
+ *           for 1; a label's slot is the label.
+ * Checks    1  the format is 1 to 27
+ *           2  labels_len is 129,600
+ *           3  each element of labels is below 2^m
+ *           5  out_len is at least 129,920
+ * Success   The answer is 0. The first 129,920 slots of out are the frame, and those after them as
+ *           they were.
+ * Refusal   The answer is the check's number. out is as it was.
+ */
+uint8_t sccc_frame(uint64_t format, const uint8_t *labels, size_t labels_len, uint16_t *out,
+                   size_t out_len);
+
+/*
+ * sccc_section: a codeword section of a frame's labels.
+ *
+ * Computes  where the labels of the codeword at a place stand in the caller's labels. Any byte is a
+ *           label there, since no format is given.
+ * Checks    2  labels_len is 129,600
+ *           8  the place is 0 to 15
+ * Success   number is 0, and the section is labels[start] to labels[start + length - 1]: start is
+ *           place * 8,100, and length 8,100.
+ * Refusal   number is the check's, and start and length are 0.
+ */
+sccc_section_range sccc_section(const uint8_t *labels, size_t labels_len, uint64_t place);
+
+/*
+ * sccc_compare: two label lists held against each other.
+ *
+ * Computes  whether two lists of a format's labels are the same; if not, at how many places they
+ *           differ, and the first of these. a and b may overlap, since neither is written.
+ * Checks    1  the format is 1 to 27
+ *           2  a_len and b_len are 8,100
+ *           3  each element of a and of b is below 2^m
+ * Success   number is 0. Lists that are the same have same 1, and 0 in count and first; others
+ *           have same 0, and their count and first.
+ * Refusal   number is the check's, and every other field is 0.
+ */
+sccc_comparison sccc_compare(uint64_t format, const uint8_t *a, size_t a_len, const uint8_t *b,
+                             size_t b_len);
+
+#ifdef __cplusplus
+}
+#endif
+
+#endif

@@ -1,0 +1,545 @@
+/* Every check of every call, in order, and every byte that a call is lent. Buffers are filled
+ * beforehand; a length of 0 goes with a null pointer. */
+#define _POSIX_C_SOURCE 200809L
+
+#include "sccc.h"
+
+#include <pthread.h>
+#include <stdio.h>
+#include <string.h>
+
+enum { SPARE = 5 }; /* elements past those that a call needs */
+
+static uint8_t block[SCCC_MAX_K + SPARE];
+static uint8_t work[SCCC_MAX_I + SPARE];
+static uint8_t codeword[SCCC_MAX_N + SPARE];
+static uint8_t labels[SCCC_FRAME_LABELS + SPARE];
+static uint8_t others[SCCC_SYMBOLS + SPARE];
+static uint16_t slots[SCCC_FRAME_SLOTS + SPARE];
+
+static const uint64_t not_formats[] = {0, 28, 256, 257, UINT64_C(4294967297), UINT64_MAX};
+static const uint64_t not_small[] = {256, UINT64_C(4294967296), UINT64_MAX};
+
+#define LENGTH(array) (sizeof(array) / sizeof(array)[0])
+
+static unsigned long checks, failures;
+
+#define CHECK(condition) check(__LINE__, (condition) != 0, #condition)
+
+static void check(int line, int holds, const char *condition)
+{
+    checks++;
+    if (!holds) {
+        failures++;
+        printf("%s:%d: not so: %s\n", __FILE__, line, condition);
+    }
+}
+
+/* What an element holds before a call: never what a call would write there by chance alone. */
+static unsigned filling(size_t i)
+{
+    return 64 + (unsigned)(i % 191);
+}
+
+static void fill(uint8_t *buffer, size_t length)
+{
+    size_t i;
+    for (i = 0; i < length; i++)
+        buffer[i] = (uint8_t)filling(i);
+}
+
+static int as_filled(const uint8_t *buffer, size_t from, size_t length)
+{
+    size_t i;
+    for (i = from; i < length; i++)
+        if (buffer[i] != filling(i))
+            return 0;
+    return 1;
+}
+
+static void fill_slots(void)
+{
+    size_t i;
+    for (i = 0; i < LENGTH(slots); i++)
+        slots[i] = (uint16_t)(1000 + filling(i));
+}
+
+static int slots_as_filled(size_t from)
+{
+    size_t i;
+    for (i = from; i < LENGTH(slots); i++)
+        if (slots[i] != 1000 + filling(i))
+            return 0;
+    return 1;
+}
+
+/* Whether a list is one value throughout. */
+static int all(const uint8_t *list, size_t length, uint8_t value)
+{
+    size_t i;
+    for (i = 0; i < length; i++)
+        if (list[i] != value)
+            return 0;
+    return 1;
+}
+
+static const uint8_t *lent(const uint8_t *list, size_t length)
+{
+    return length == 0 ? NULL : list;
+}
+
+static uint8_t *lent_out(uint8_t *list, size_t length)
+{
+    return length == 0 ? NULL : list;
+}
+
+static void format(void)
+{
+    uint64_t f, k = 0, i = 0, n = 0;
+    size_t j;
+    CHECK(sizeof(sccc_format_info) == 7 * sizeof(uint64_t));
+    for (f = 1; f <= SCCC_FORMATS; f++) {
+        sccc_format_info r = sccc_format(f);
+        CHECK(r.number == SCCC_PASSED);
+        CHECK(r.m >= 2 && r.m <= 6);
+        CHECK(2 * r.i == 3 * (r.k + 2));
+        CHECK(r.i == 120 * r.w);
+        CHECK(r.n == SCCC_SYMBOLS * r.m);
+        CHECK(r.provisional == (f == 12 || f == 14));
+        k = r.k > k ? r.k : k;
+        i = r.i > i ? r.i : i;
+        n = r.n > n ? r.n : n;
+    }
+    CHECK(k == SCCC_MAX_K && i == SCCC_MAX_I && n == SCCC_MAX_N);
+    CHECK(sccc_format(13).k == 19198 && sccc_format(13).w == 240);
+    for (j = 0; j < LENGTH(not_formats); j++) {
+        sccc_format_info r = sccc_format(not_formats[j]);
+        CHECK(r.number == SCCC_BAD_FORMAT);
+        CHECK((r.m | r.k | r.i | r.w | r.n | r.provisional) == 0);
+    }
+}
+
+static int step_refused(uint64_t state, uint64_t bit)
+{
+    sccc_stepped r = sccc_step(state, bit);
+    return r.number == SCCC_BAD_ELEMENT && (r.systematic | r.parity | r.state) == 0;
+}
+
+static void step(void)
+{
+    uint64_t state, bit;
+    size_t j;
+    CHECK(sizeof(sccc_stepped) == 4 * sizeof(uint64_t));
+    for (state = 0; state < 4; state++)
+        for (bit = 0; bit < 2; bit++) {
+            uint64_t x0 = state / 2, x1 = state % 2;
+            sccc_stepped r = sccc_step(state, bit);
+            CHECK(r.number == SCCC_PASSED);
+            CHECK(r.systematic == bit);
+            CHECK(r.parity == (bit ^ x1));
+            CHECK(r.state == 2 * x1 + (x0 ^ x1 ^ bit));
+        }
+    CHECK(step_refused(4, 0));
+    CHECK(step_refused(0, 2));
+    CHECK(step_refused(4, 2));
+    for (j = 0; j < LENGTH(not_small); j++) {
+        CHECK(step_refused(not_small[j], 0));
+        CHECK(step_refused(0, not_small[j]));
+    }
+}
+
+static int interleave_refused(uint64_t number, uint64_t f, uint64_t position)
+{
+    sccc_interleaved r = sccc_interleave(f, position);
+    return r.number == number && r.position == 0;
+}
+
+static void interleave(void)
+{
+    static const uint64_t formats[] = {1, 12, 27};
+    static uint8_t met[SCCC_MAX_I];
+    size_t j;
+    uint64_t p;
+    CHECK(sizeof(sccc_interleaved) == 2 * sizeof(uint64_t));
+    for (j = 0; j < LENGTH(formats); j++) {
+        uint64_t f = formats[j], i = sccc_format(f).i;
+        int inside = 1;
+        memset(met, 0, sizeof met);
+        for (p = 0; p < i; p++) {
+            sccc_interleaved r = sccc_interleave(f, p);
+            if (r.number == SCCC_PASSED && r.position < i)
+                met[r.position] = 1;
+            else
+                inside = 0;
+        }
+        CHECK(inside);
+        CHECK(all(met, i, 1));
+        CHECK(interleave_refused(SCCC_BAD_PLACE, f, i));
+        CHECK(interleave_refused(SCCC_BAD_PLACE, f, UINT64_C(4294967296)));
+        CHECK(interleave_refused(SCCC_BAD_PLACE, f, UINT64_MAX));
+    }
+    for (j = 0; j < LENGTH(not_formats); j++) {
+        CHECK(interleave_refused(SCCC_BAD_FORMAT, not_formats[j], 0));
+        CHECK(interleave_refused(SCCC_BAD_FORMAT, not_formats[j], UINT64_MAX));
+    }
+}
+
+/* An encode call on the block and on filled memory: its answer, and every byte that it leaves. */
+static void encode_gives(int line, uint8_t number, uint64_t f, size_t block_len, size_t work_len,
+                         size_t out_len)
+{
+    static uint8_t before[sizeof block];
+    int passes = number == SCCC_PASSED;
+    uint8_t answer;
+    memcpy(before, block, sizeof block);
+    fill(work, sizeof work);
+    fill(codeword, sizeof codeword);
+    answer = sccc_encode(f, lent(block, block_len), block_len, lent_out(work, work_len), work_len,
+                         lent_out(codeword, out_len), out_len);
+    check(line, answer == number, "the answer of sccc_encode");
+    check(line, memcmp(block, before, sizeof block) == 0, "the block is unchanged");
+    check(line, as_filled(work, passes ? sccc_format(f).i : 0, sizeof work),
+          "work is unchanged where nothing is due");
+    check(line, as_filled(codeword, passes ? sccc_format(f).n : 0, sizeof codeword),
+          "out is unchanged where nothing is due");
+}
+
+#define ENCODE(number, f, block_len, work_len, out_len)                                            \
+    encode_gives(__LINE__, number, f, block_len, work_len, out_len)
+
+static void encode(void)
+{
+    uint64_t f;
+    size_t j;
+    memset(block, 0, sizeof block);
+    for (f = 1; f <= SCCC_FORMATS; f++) {
+        sccc_format_info r = sccc_format(f);
+        ENCODE(SCCC_PASSED, f, r.k, r.i, r.n);
+        CHECK(all(work, r.i, 0) && all(codeword, r.n, 0));
+        ENCODE(SCCC_PASSED, f, r.k, sizeof work, sizeof codeword);
+        ENCODE(SCCC_BAD_LENGTH, f, r.k - 1, r.i, r.n);
+        ENCODE(SCCC_BAD_LENGTH, f, r.k + 1, r.i, r.n);
+        ENCODE(SCCC_SHORT_WORKSPACE, f, r.k, r.i - 1, r.n);
+        ENCODE(SCCC_SHORT_OUTPUT, f, r.k, r.i, r.n - 1);
+    }
+    for (j = 0; j < LENGTH(not_formats); j++) {
+        ENCODE(SCCC_BAD_FORMAT, not_formats[j], 5758, 8640, 16200);
+        ENCODE(SCCC_BAD_FORMAT, not_formats[j], 0, 0, 0);
+    }
+    ENCODE(SCCC_BAD_LENGTH, 1, 0, 0, 0);
+    ENCODE(SCCC_BAD_LENGTH, 1, 0, 8640, 16200);
+    ENCODE(SCCC_SHORT_WORKSPACE, 1, 5758, 0, 0);
+    ENCODE(SCCC_SHORT_WORKSPACE, 1, 5758, 8639, 16199);
+    ENCODE(SCCC_SHORT_OUTPUT, 1, 5758, 8640, 0);
+    ENCODE(SCCC_PASSED, 1, 5758, 8640, 16201);
+    block[5757] = 2;
+    ENCODE(SCCC_BAD_LENGTH, 1, 5759, 0, 0);
+    ENCODE(SCCC_BAD_ELEMENT, 1, 5758, 0, 0);
+    ENCODE(SCCC_BAD_ELEMENT, 1, 5758, 8640, 16200);
+    block[5757] = 255;
+    ENCODE(SCCC_BAD_ELEMENT, 1, 5758, 8640, 16200);
+    block[5757] = 1;
+    ENCODE(SCCC_PASSED, 1, 5758, 8640, 16200);
+    block[0] = 2;
+    ENCODE(SCCC_BAD_ELEMENT, 1, 5758, 8640, 16200);
+}
+
+/* A labels call on the codeword and on filled memory, to the front of `others`. */
+static void labels_gives(int line, uint8_t number, uint64_t f, size_t codeword_len, size_t out_len)
+{
+    static uint8_t before[sizeof codeword];
+    uint8_t answer;
+    memcpy(before, codeword, sizeof codeword);
+    fill(others, sizeof others);
+    answer = sccc_labels(f, lent(codeword, codeword_len), codeword_len, lent_out(others, out_len),
+                         out_len);
+    check(line, answer == number, "the answer of sccc_labels");
+    check(line, memcmp(codeword, before, sizeof codeword) == 0, "the codeword is unchanged");
+    check(line, as_filled(others, number == SCCC_PASSED ? SCCC_SYMBOLS : 0, sizeof others),
+          "out is unchanged where nothing is due");
+}
+
+#define LABELS(number, f, codeword_len, out_len)                                                   \
+    labels_gives(__LINE__, number, f, codeword_len, out_len)
+
+static void label_lists(void)
+{
+    uint64_t f;
+    size_t j;
+    for (f = 1; f <= SCCC_FORMATS; f++) {
+        sccc_format_info r = sccc_format(f);
+        memset(codeword, 1, sizeof codeword);
+        LABELS(SCCC_PASSED, f, r.n, SCCC_SYMBOLS);
+        CHECK(all(others, SCCC_SYMBOLS, (uint8_t)((1u << r.m) - 1)));
+        LABELS(SCCC_PASSED, f, r.n, sizeof others);
+        memset(codeword, 0, SCCC_SYMBOLS);
+        LABELS(SCCC_PASSED, f, r.n, SCCC_SYMBOLS);
+        CHECK(all(others, SCCC_SYMBOLS, (uint8_t)((1u << (r.m - 1)) - 1)));
+        LABELS(SCCC_BAD_LENGTH, f, r.n - 1, SCCC_SYMBOLS);
+        LABELS(SCCC_BAD_LENGTH, f, r.n + 1, SCCC_SYMBOLS);
+        LABELS(SCCC_SHORT_OUTPUT, f, r.n, SCCC_SYMBOLS - 1);
+        LABELS(SCCC_SHORT_OUTPUT, f, r.n, 0);
+    }
+    for (j = 0; j < LENGTH(not_formats); j++) {
+        LABELS(SCCC_BAD_FORMAT, not_formats[j], 16200, SCCC_SYMBOLS);
+        LABELS(SCCC_BAD_FORMAT, not_formats[j], 0, 0);
+    }
+    LABELS(SCCC_BAD_LENGTH, 1, 0, 0);
+    LABELS(SCCC_BAD_LENGTH, 1, 0, SCCC_SYMBOLS);
+    codeword[16199] = 2;
+    LABELS(SCCC_BAD_LENGTH, 1, 16201, 0);
+    LABELS(SCCC_BAD_ELEMENT, 1, 16200, 0);
+    LABELS(SCCC_BAD_ELEMENT, 1, 16200, SCCC_SYMBOLS);
+    codeword[16199] = 0;
+    codeword[0] = 255;
+    LABELS(SCCC_BAD_ELEMENT, 1, 16200, SCCC_SYMBOLS);
+}
+
+/* A frame call on the labels and on filled slots. */
+static void frame_gives(int line, uint8_t number, uint64_t f, size_t labels_len, size_t out_len)
+{
+    static uint8_t before[sizeof labels];
+    uint8_t answer;
+    memcpy(before, labels, sizeof labels);
+    fill_slots();
+    answer = sccc_frame(f, lent(labels, labels_len), labels_len, out_len == 0 ? NULL : slots,
+                        out_len);
+    check(line, answer == number, "the answer of sccc_frame");
+    check(line, memcmp(labels, before, sizeof labels) == 0, "the labels are unchanged");
+    check(line, slots_as_filled(number == SCCC_PASSED ? SCCC_FRAME_SLOTS : 0),
+          "out is unchanged where nothing is due");
+}
+
+#define FRAME(number, f, labels_len, out_len) frame_gives(__LINE__, number, f, labels_len, out_len)
+
+static void frame(void)
+{
+    static const unsigned marker[] = {1, 1, 1, 1, 1, 0, 1, 1, 0, 1, 0, 0, 0, 1, 0, 0};
+    const size_t header = SCCC_FRAME_SLOTS - SCCC_FRAME_LABELS;
+    uint64_t f;
+    size_t j;
+    for (f = 1; f <= SCCC_FORMATS; f++) {
+        uint8_t top = (uint8_t)((1u << sccc_format(f).m) - 1);
+        int codes = 1, same = 1;
+        for (j = 0; j < sizeof labels; j++)
+            labels[j] = (uint8_t)(j % (top + 1u));
+        FRAME(SCCC_PASSED, f, SCCC_FRAME_LABELS, SCCC_FRAME_SLOTS);
+        for (j = 0; j < header; j++)
+            codes = codes && (slots[j] == 256 || slots[j] == 257);
+        CHECK(codes);
+        for (j = 0; j < LENGTH(marker); j++)
+            CHECK(slots[j] == 256 + marker[j]);
+        for (j = 0; j < SCCC_FRAME_LABELS; j++)
+            same = same && slots[header + j] == labels[j];
+        CHECK(same);
+        labels[SCCC_FRAME_LABELS - 1] = top;
+        FRAME(SCCC_PASSED, f, SCCC_FRAME_LABELS, LENGTH(slots));
+        labels[SCCC_FRAME_LABELS - 1] = (uint8_t)(top + 1);
+        FRAME(SCCC_BAD_ELEMENT, f, SCCC_FRAME_LABELS, SCCC_FRAME_SLOTS);
+        FRAME(SCCC_BAD_ELEMENT, f, SCCC_FRAME_LABELS, 0);
+        FRAME(SCCC_BAD_LENGTH, f, SCCC_FRAME_LABELS - 1, SCCC_FRAME_SLOTS);
+        FRAME(SCCC_BAD_LENGTH, f, SCCC_FRAME_LABELS + 1, SCCC_FRAME_SLOTS);
+    }
+    memset(labels, 0, sizeof labels);
+    for (j = 0; j < LENGTH(not_formats); j++) {
+        FRAME(SCCC_BAD_FORMAT, not_formats[j], SCCC_FRAME_LABELS, SCCC_FRAME_SLOTS);
+        FRAME(SCCC_BAD_FORMAT, not_formats[j], 0, 0);
+    }
+    FRAME(SCCC_BAD_LENGTH, 1, 0, 0);
+    FRAME(SCCC_BAD_LENGTH, 1, 0, SCCC_FRAME_SLOTS);
+    FRAME(SCCC_SHORT_OUTPUT, 1, SCCC_FRAME_LABELS, 0);
+    FRAME(SCCC_SHORT_OUTPUT, 1, SCCC_FRAME_LABELS, SCCC_FRAME_SLOTS - 1);
+    labels[0] = 255;
+    FRAME(SCCC_BAD_ELEMENT, 27, SCCC_FRAME_LABELS, SCCC_FRAME_SLOTS);
+}
+
+static int section_refused(uint64_t number, size_t labels_len, uint64_t place)
+{
+    sccc_section_range r = sccc_section(lent(labels, labels_len), labels_len, place);
+    return r.number == number && r.start == 0 && r.length == 0;
+}
+
+static void section(void)
+{
+    uint64_t place;
+    size_t j;
+    CHECK(sizeof(sccc_section_range) == 3 * sizeof(uint64_t));
+    fill(labels, sizeof labels);
+    for (place = 0; place < SCCC_SECTIONS; place++) {
+        sccc_section_range r = sccc_section(labels, SCCC_FRAME_LABELS, place);
+        CHECK(r.number == SCCC_PASSED);
+        CHECK(r.start == place * SCCC_SYMBOLS && r.length == SCCC_SYMBOLS);
+    }
+    CHECK(section_refused(SCCC_BAD_PLACE, SCCC_FRAME_LABELS, 16));
+    for (j = 0; j < LENGTH(not_small); j++)
+        CHECK(section_refused(SCCC_BAD_PLACE, SCCC_FRAME_LABELS, not_small[j]));
+    CHECK(section_refused(SCCC_BAD_LENGTH, SCCC_FRAME_LABELS - 1, 0));
+    CHECK(section_refused(SCCC_BAD_LENGTH, SCCC_FRAME_LABELS + 1, 0));
+    CHECK(section_refused(SCCC_BAD_LENGTH, 0, 0));
+    CHECK(section_refused(SCCC_BAD_LENGTH, 0, 16));
+    CHECK(as_filled(labels, 0, sizeof labels));
+}
+
+/* A comparison of the front of `labels` with that of `others`. */
+static void compare_gives(int line, uint64_t f, size_t a_len, size_t b_len, uint64_t number,
+                          uint64_t same, uint64_t count, uint64_t first)
+{
+    sccc_comparison r = sccc_compare(f, lent(labels, a_len), a_len, lent(others, b_len), b_len);
+    check(line, r.number == number, "the number of sccc_compare");
+    check(line, r.same == same, "whether the lists are the same");
+    check(line, r.count == count, "the count of differences");
+    check(line, r.first == first, "the first difference");
+}
+
+#define COMPARE(f, number, same, count, first)                                                     \
+    compare_gives(__LINE__, f, SCCC_SYMBOLS, SCCC_SYMBOLS, number, same, count, first)
+#define COMPARE_REFUSED(f, a_len, b_len, number)                                                   \
+    compare_gives(__LINE__, f, a_len, b_len, number, 0, 0, 0)
+
+static void compare(void)
+{
+    uint64_t f;
+    size_t j;
+    CHECK(sizeof(sccc_comparison) == 4 * sizeof(uint64_t));
+    memset(labels, 0, sizeof labels);
+    memset(others, 0, sizeof others);
+    for (f = 1; f <= SCCC_FORMATS; f++) {
+        uint8_t top = (uint8_t)((1u << sccc_format(f).m) - 1);
+        COMPARE(f, SCCC_PASSED, 1, 0, 0);
+        others[0] = top;
+        COMPARE(f, SCCC_PASSED, 0, 1, 0);
+        others[0] = 0;
+        labels[8099] = top;
+        COMPARE(f, SCCC_PASSED, 0, 1, 8099);
+        others[4000] = 1;
+        COMPARE(f, SCCC_PASSED, 0, 2, 4000);
+        others[8099] = (uint8_t)(top + 1);
+        COMPARE_REFUSED(f, SCCC_SYMBOLS, SCCC_SYMBOLS, SCCC_BAD_ELEMENT);
+        labels[8099] = (uint8_t)(top + 1);
+        COMPARE_REFUSED(f, SCCC_SYMBOLS, SCCC_SYMBOLS, SCCC_BAD_ELEMENT);
+        COMPARE_REFUSED(f, SCCC_SYMBOLS - 1, SCCC_SYMBOLS, SCCC_BAD_LENGTH);
+        COMPARE_REFUSED(f, SCCC_SYMBOLS, SCCC_SYMBOLS + 1, SCCC_BAD_LENGTH);
+        others[4000] = others[8099] = 0;
+        COMPARE_REFUSED(f, SCCC_SYMBOLS, SCCC_SYMBOLS, SCCC_BAD_ELEMENT);
+        labels[8099] = 0;
+        memset(others, 1, SCCC_SYMBOLS);
+        COMPARE(f, SCCC_PASSED, 0, SCCC_SYMBOLS, 0);
+        memset(others, 0, SCCC_SYMBOLS);
+    }
+    CHECK(sccc_compare(1, labels, SCCC_SYMBOLS, labels, SCCC_SYMBOLS).same == 1);
+    for (j = 0; j < LENGTH(not_formats); j++) {
+        COMPARE_REFUSED(not_formats[j], SCCC_SYMBOLS, SCCC_SYMBOLS, SCCC_BAD_FORMAT);
+        COMPARE_REFUSED(not_formats[j], 0, 0, SCCC_BAD_FORMAT);
+    }
+    COMPARE_REFUSED(1, SCCC_SYMBOLS - 1, SCCC_SYMBOLS - 1, SCCC_BAD_LENGTH);
+    COMPARE_REFUSED(1, SCCC_SYMBOLS + 1, SCCC_SYMBOLS, SCCC_BAD_LENGTH);
+    COMPARE_REFUSED(1, SCCC_SYMBOLS, SCCC_SYMBOLS - 1, SCCC_BAD_LENGTH);
+    COMPARE_REFUSED(1, 0, SCCC_SYMBOLS, SCCC_BAD_LENGTH);
+    COMPARE_REFUSED(1, SCCC_SYMBOLS, 0, SCCC_BAD_LENGTH);
+}
+
+/* A thread's own buffers: it encodes one block of its format a few times over. */
+typedef struct {
+    uint64_t f;
+    uint8_t block[SCCC_MAX_K], work[SCCC_MAX_I], once[SCCC_MAX_N], again[SCCC_MAX_N];
+    int same;
+} job;
+
+static void *encode_again(void *argument)
+{
+    job *j = argument;
+    sccc_format_info r = sccc_format(j->f);
+    int i;
+    for (i = 0; i < 50; i++) {
+        memset(j->again, 170, r.n);
+        sccc_encode(j->f, j->block, r.k, j->work, r.i, j->again, r.n);
+        j->same = j->same && memcmp(j->again, j->once, r.n) == 0;
+    }
+    return NULL;
+}
+
+static void threads(void)
+{
+    static job jobs[4];
+    pthread_t thread[LENGTH(jobs)];
+    size_t j, i;
+    for (j = 0; j < LENGTH(jobs); j++) {
+        sccc_format_info r = sccc_format(jobs[j].f = 6 * j + 5);
+        for (i = 0; i < r.k; i++)
+            jobs[j].block[i] = (uint8_t)(i * i / 7 % 2);
+        CHECK(sccc_encode(jobs[j].f, jobs[j].block, r.k, jobs[j].work, r.i, jobs[j].once, r.n) ==
+              SCCC_PASSED);
+        jobs[j].same = 1;
+    }
+    for (j = 0; j < LENGTH(jobs); j++)
+        CHECK(pthread_create(&thread[j], NULL, encode_again, &jobs[j]) == 0);
+    for (j = 0; j < LENGTH(jobs); j++) {
+        CHECK(pthread_join(thread[j], NULL) == 0);
+        CHECK(jobs[j].same);
+    }
+}
+
+/* Each call once, for the stack that it takes. */
+static void *call_each(void *argument)
+{
+    job *j = argument;
+    sccc_format_info r = sccc_format(j->f);
+    sccc_step(0, 1);
+    sccc_interleave(j->f, 1);
+    sccc_encode(j->f, j->block, r.k, j->work, r.i, j->once, r.n);
+    sccc_labels(j->f, j->once, r.n, others, SCCC_SYMBOLS);
+    sccc_frame(j->f, labels, SCCC_FRAME_LABELS, slots, SCCC_FRAME_SLOTS);
+    sccc_section(labels, SCCC_FRAME_LABELS, 1);
+    sccc_compare(j->f, others, SCCC_SYMBOLS, labels, SCCC_SYMBOLS);
+    return NULL;
+}
+
+/* A thread on a stack that was filled beforehand shows how deep the calls went. */
+static void stack(void)
+{
+    static union {
+        uint8_t bytes[256 * 1024];
+        long double aligned;
+    } memory;
+    static job j = {27, {0}, {0}, {0}, {0}, 0};
+    size_t untouched = 0;
+    pthread_attr_t attributes;
+    pthread_t thread;
+    memset(labels, 0, sizeof labels);
+    fill(memory.bytes, sizeof memory.bytes);
+    CHECK(pthread_attr_init(&attributes) == 0);
+    CHECK(pthread_attr_setstack(&attributes, memory.bytes, sizeof memory.bytes) == 0);
+    CHECK(pthread_create(&thread, &attributes, call_each, &j) == 0);
+    CHECK(pthread_join(thread, NULL) == 0);
+    CHECK(pthread_attr_destroy(&attributes) == 0);
+    while (untouched < sizeof memory.bytes && memory.bytes[untouched] == filling(untouched))
+        untouched++;
+    CHECK(sizeof memory.bytes - untouched < 32 * 1024);
+}
+
+int main(void)
+{
+    static const struct {
+        const char *name;
+        void (*run)(void);
+    } groups[] = {
+        {"sccc_format", format},
+        {"sccc_step", step},
+        {"sccc_interleave", interleave},
+        {"sccc_encode", encode},
+        {"sccc_labels", label_lists},
+        {"sccc_frame", frame},
+        {"sccc_section", section},
+        {"sccc_compare", compare},
+        {"threads", threads},
+        {"stack", stack},
+    };
+    size_t j;
+    for (j = 0; j < LENGTH(groups); j++) {
+        unsigned long checks_before = checks, failures_before = failures;
+        groups[j].run();
+        printf("%s: %lu checks, %lu failed\n", groups[j].name, checks - checks_before,
+               failures - failures_before);
+    }
+    return failures == 0 ? 0 : 1;
+}
