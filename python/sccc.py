@@ -1,0 +1,329 @@
+"""The SCCC encoder of CCSDS 131.2-O-1, over the shared object libsccc.so.
+
+    import sccc
+
+    block = bytes(sccc.format_info(13).k)
+    labels = sccc.labels(13, sccc.encode(13, block))
+
+Data. A bit is a byte, 0 or 1, and a label a byte below 2^m. They are lent as any object with the buffer protocol whose elements
+are one byte and lie in one piece: bytes, bytearray, memoryview, array.array, a numpy array of uint8 or bool. Nothing is copied.
+A call that writes takes the memory for it as out= (and work=), or allocates it, and returns a memoryview of what it wrote, which
+numpy.asarray takes as it is.
+
+Refusals. A call makes the checks that include/sccc.h lists with it, in that order, and raises ScccError with the number of the
+first one that fails; memory lent to it is then as it was. Numbers of any size may be given: 257 is not format 1, nor is
+2^64 + 1. Memory of the wrong kind (of other elements, not in one piece, read-only where it is to be written) raises TypeError,
+and memory that overlaps ValueError, before any check.
+
+Formats 12 and 14 are provisional: their interleaver has rows that stand in for published ones, so their codewords are not the
+standard's. format_info says so.
+
+Calls may run in several threads at once, and do so without Python's global lock, as long as nothing else writes the memory of
+one before it returns.
+
+CPython 3.9 or newer, and nothing but its standard library.
+"""
+
+from __future__ import annotations
+
+import ctypes
+import operator
+import os
+import sys
+from array import array
+from typing import Any, List, NamedTuple, Optional, SupportsIndex, Union
+
+if sys.version_info >= (3, 12):
+    from collections.abc import Buffer
+else:
+    Buffer = Any
+
+__all__ = [
+    "FORMATS", "SYMBOLS", "SECTIONS", "FRAME_LABELS", "FRAME_SLOTS", "MEANINGS",
+    "ScccError", "FormatInfo", "Step", "Comparison",
+    "load", "format_info", "step", "interleave", "encode", "labels", "frame", "section", "compare",
+]
+
+#: The formats are 1 to 27.
+FORMATS = 27
+#: Labels of a codeword.
+SYMBOLS = 8100
+#: Codewords of a frame.
+SECTIONS = 16
+#: Labels of a frame.
+FRAME_LABELS = 129600
+#: Slots of a frame.
+FRAME_SLOTS = 129920
+
+#: What it means that the check of a number failed.
+MEANINGS = {
+    1: "the format is not 1 to 27",
+    2: "an input list is not exactly as long as the call takes",
+    3: "a bit is not 0 or 1, a label not below 2^m, or a state not 0 to 3",
+    4: "the workspace is too short",
+    5: "the output is too short",
+    8: "the place or position is not inside",
+}
+
+
+class ScccError(ValueError):
+    """A refused call: the number of the first check that failed, and what that means."""
+
+    def __init__(self, number: int) -> None:
+        super().__init__(number)
+        self.number = number
+        self.meaning = MEANINGS.get(number, "a check that this module does not know")
+
+    def __str__(self) -> str:
+        return f"check {self.number}: {self.meaning}"
+
+
+class FormatInfo(NamedTuple):
+    """The parameters of an ACM format."""
+
+    #: bits of a label
+    m: int
+    #: bits of a block
+    k: int
+    #: length of the interleaver, and bytes of the workspace
+    i: int
+    #: i / 120
+    w: int
+    #: bits of a codeword
+    n: int
+    #: whether the interleaver has rows that stand in for published ones
+    provisional: bool
+
+
+class Step(NamedTuple):
+    """A trellis step: its two output bits, and the state that follows."""
+
+    systematic: int
+    parity: int
+    state: int
+
+
+class Comparison(NamedTuple):
+    """Whether two label lists are the same; if not, at how many places they differ, and the first of these. Else both are 0."""
+
+    same: bool
+    count: int
+    first: int
+
+
+def load(path: Union[str, "os.PathLike[str]", None] = None) -> None:
+    """Loads the shared object: the one named, else that of the environment variable SCCC_LIBRARY, else build/libsccc.so beside
+    this module's directory. The first call does it where this was not called before."""
+    global _library
+    name = path or os.environ.get("SCCC_LIBRARY") or _BUILT
+    library = ctypes.CDLL(os.fspath(name))
+    for call, (answer, arguments) in _PROTOTYPES.items():
+        function = getattr(library, call)
+        function.restype, function.argtypes = answer, arguments
+    _library = library
+
+
+def format_info(format: SupportsIndex) -> FormatInfo:
+    """The parameters of an ACM format. Checks: 1."""
+    r = _loaded().sccc_format(_number(format))
+    _pass(r.number)
+    return FormatInfo(r.m, r.k, r.i, r.w, r.n, r.provisional != 0)
+
+
+def step(state: SupportsIndex, bit: SupportsIndex) -> Step:
+    """One trellis step from the state 2 * x0 + x1 on a bit. Checks: 3, of the state and of the bit."""
+    r = _loaded().sccc_step(_number(state), _number(bit))
+    _pass(r.number)
+    return Step(r.systematic, r.parity, r.state)
+
+
+def interleave(format: SupportsIndex, position: SupportsIndex) -> int:
+    """The interleaved position of a position in the upper register. Checks: 1; 8, the position is below I."""
+    r = _loaded().sccc_interleave(_number(format), _number(position))
+    _pass(r.number)
+    return r.position
+
+
+def encode(format: SupportsIndex, block: Buffer, *, work: Optional[Buffer] = None, out: Optional[Buffer] = None) -> memoryview:
+    """The codeword of an information block: the first N bytes of out.
+
+    Checks: 1; 2, the block has K bits; 3, each is 0 or 1; 4, work has at least I bytes; 5, out has at least N.
+    Afterwards the first I bytes of work are the outer kept bits before interleaving; what lies behind, there and in out, is as it was.
+    """
+    sizes = _loaded().sccc_format(_number(format))
+    given = _view("block", block)
+    workspace = _view("work", bytearray(sizes.i) if work is None else work, writable=True)
+    codeword = _view("out", bytearray(sizes.n) if out is None else out, writable=True)
+    _pass(_loaded().sccc_encode(_number(format), *_lent(given, workspace, codeword, written=2)))
+    return codeword[: sizes.n]
+
+
+def labels(format: SupportsIndex, codeword: Buffer, *, out: Optional[Buffer] = None) -> memoryview:
+    """The labels of a codeword: the first 8,100 bytes of out.
+
+    Checks: 1; 2, the codeword has N bits; 3, each is 0 or 1; 5, out has at least 8,100 bytes.
+    """
+    given = _view("codeword", codeword)
+    result = _view("out", bytearray(SYMBOLS) if out is None else out, writable=True)
+    _pass(_loaded().sccc_labels(_number(format), *_lent(given, result, written=1)))
+    return result[:SYMBOLS]
+
+
+def frame(format: SupportsIndex, labels: Buffer, *, out: Optional[Buffer] = None) -> memoryview:
+    """The frame of sixteen codewords' labels, without pilots: the first 129,920 slots of out, whose elements are unsigned and of
+    16 bits (array.array of type H, numpy's uint16).
+
+    Checks: 1; 2, there are 129,600 labels; 3, each is below 2^m; 5, out has at least 129,920 slots.
+    """
+    given = _view("labels", labels)
+    slots = _view("out", array("H", bytes(2 * FRAME_SLOTS)) if out is None else out, kind="H", writable=True)
+    _pass(_loaded().sccc_frame(_number(format), *_lent(given, slots, written=1)))
+    return slots[:FRAME_SLOTS]
+
+
+def section(labels: Buffer, place: SupportsIndex) -> memoryview:
+    """The codeword section at a place from 0 to 15: 8,100 of the caller's own labels, to read, or to write if they can be.
+
+    Checks: 2, there are 129,600 labels; 8, the place is 0 to 15.
+    """
+    given = _view("labels", labels)
+    r = _loaded().sccc_section(*_lent(given), _number(place))
+    _pass(r.number)
+    return given[r.start : r.start + r.length]
+
+
+def compare(format: SupportsIndex, a: Buffer, b: Buffer) -> Comparison:
+    """Two lists of 8,100 labels held against each other.
+
+    Checks: 1; 2, each has 8,100 labels; 3, each label of either is below 2^m.
+    """
+    r = _loaded().sccc_compare(_number(format), *_lent(_view("a", a), _view("b", b)))
+    _pass(r.number)
+    return Comparison(r.same != 0, r.count, r.first)
+
+
+# The C interface, as include/sccc.h declares it.
+
+
+class _FormatInfo(ctypes.Structure):
+    _fields_ = [(name, ctypes.c_uint64) for name in ("number", "m", "k", "i", "w", "n", "provisional")]
+
+
+class _Stepped(ctypes.Structure):
+    _fields_ = [(name, ctypes.c_uint64) for name in ("number", "systematic", "parity", "state")]
+
+
+class _Interleaved(ctypes.Structure):
+    _fields_ = [(name, ctypes.c_uint64) for name in ("number", "position")]
+
+
+class _SectionRange(ctypes.Structure):
+    _fields_ = [(name, ctypes.c_uint64) for name in ("number", "start", "length")]
+
+
+class _Comparison(ctypes.Structure):
+    _fields_ = [(name, ctypes.c_uint64) for name in ("number", "same", "count", "first")]
+
+
+_NUMBER = [ctypes.c_uint64]
+_SLICE = [ctypes.c_void_p, ctypes.c_size_t]
+_PROTOTYPES = {
+    "sccc_format": (_FormatInfo, _NUMBER),
+    "sccc_step": (_Stepped, _NUMBER + _NUMBER),
+    "sccc_interleave": (_Interleaved, _NUMBER + _NUMBER),
+    "sccc_encode": (ctypes.c_uint8, _NUMBER + _SLICE + _SLICE + _SLICE),
+    "sccc_labels": (ctypes.c_uint8, _NUMBER + _SLICE + _SLICE),
+    "sccc_frame": (ctypes.c_uint8, _NUMBER + _SLICE + _SLICE),
+    "sccc_section": (_SectionRange, _SLICE + _NUMBER),
+    "sccc_compare": (_Comparison, _NUMBER + _SLICE + _SLICE),
+}
+_BUILT = os.path.join(os.path.dirname(os.path.dirname(os.path.abspath(__file__))), "build", "libsccc.so")
+_library: Optional[ctypes.CDLL] = None
+
+
+def _loaded() -> ctypes.CDLL:
+    if _library is None:
+        load()
+    assert _library is not None
+    return _library
+
+
+def _pass(number: int) -> None:
+    if number != 0:
+        raise ScccError(number)
+
+
+def _number(value: SupportsIndex) -> int:
+    """A number as 64 bits. One that has no place there becomes the largest that has, which every check refuses as it would the
+    number itself; ctypes would cut it to another."""
+    number = operator.index(value)
+    return number if 0 <= number < 2**64 else 2**64 - 1
+
+
+_KINDS = {"B": ("B", "b", "c", "?"), "H": ("H",)}
+
+
+def _view(name: str, owner: Buffer, kind: str = "B", writable: bool = False) -> memoryview:
+    """The memory of an object as a list of bytes (B) or slots (H), not copied."""
+    try:
+        view = memoryview(owner)
+    except TypeError:
+        raise TypeError(f"{name}: {type(owner).__name__} lends no memory; bytes, bytearray or an array do") from None
+    if view.format.lstrip("@=<") not in _KINDS[kind]:
+        raise TypeError(f"{name}: elements of type {view.format!r}, and {'bytes' if kind == 'B' else '16-bit slots (H)'} are due")
+    if not view.c_contiguous:
+        raise TypeError(f"{name}: the elements do not lie in one piece")
+    if writable and view.readonly:
+        raise TypeError(f"{name}: the memory is read-only")
+    if view.nbytes == 0:
+        return memoryview(bytearray()).cast(kind)
+    return view.cast("B").cast(kind)
+
+
+def _lent(*views: memoryview, written: int = 0) -> List[int]:
+    """The address and the length of each view, for a call that writes the last so many of them. The views hold the memory in place."""
+    starts = [_address(view) for view in views]
+    arguments = []
+    for i, (start, view) in enumerate(zip(starts, views)):
+        if start % view.itemsize != 0:
+            raise ValueError("16-bit slots are not aligned to 2 bytes")
+        for j in range(len(views) - written, len(views)):
+            if i != j and start < starts[j] + views[j].nbytes and starts[j] < start + view.nbytes:
+                raise ValueError("memory that the call writes overlaps other memory lent to it")
+        arguments += [start, len(view)]
+    return arguments
+
+
+class _PyBuffer(ctypes.Structure):
+    """Python's own account of a buffer, Py_buffer; only the address is read."""
+
+    _fields_ = [
+        ("buf", ctypes.c_void_p),
+        ("obj", ctypes.c_void_p),
+        ("len", ctypes.c_ssize_t),
+        ("itemsize", ctypes.c_ssize_t),
+        ("readonly", ctypes.c_int),
+        ("ndim", ctypes.c_int),
+        ("format", ctypes.c_void_p),
+        ("shape", ctypes.c_void_p),
+        ("strides", ctypes.c_void_p),
+        ("suboffsets", ctypes.c_void_p),
+        ("internal", ctypes.c_void_p),
+    ]
+
+
+_get_buffer = ctypes.PYFUNCTYPE(ctypes.c_int, ctypes.py_object, ctypes.POINTER(_PyBuffer), ctypes.c_int)(
+    ("PyObject_GetBuffer", ctypes.pythonapi)
+)
+_release_buffer = ctypes.PYFUNCTYPE(None, ctypes.POINTER(_PyBuffer))(("PyBuffer_Release", ctypes.pythonapi))
+
+
+def _address(view: memoryview) -> int:
+    """Where the memory of a view begins, null if there is none. ctypes has this only for memory that can be written."""
+    if view.nbytes == 0:
+        return 0
+    buffer = _PyBuffer()
+    _get_buffer(view, buffer, 0)
+    address = buffer.buf
+    _release_buffer(buffer)
+    return address

@@ -1,0 +1,391 @@
+"""python/sccc.py over build/libsccc.so. Run: python3 tests/python/test_sccc.py"""
+import csv
+import ctypes
+import mmap
+import os
+import pickle
+import shutil
+import subprocess
+import sys
+import tempfile
+import unittest
+from array import array
+from concurrent.futures import ThreadPoolExecutor
+
+ROOT = os.path.dirname(os.path.dirname(os.path.dirname(os.path.abspath(__file__))))
+MODULE = os.path.join(ROOT, "python", "sccc.py")
+LIBRARY = os.path.join(ROOT, "build", "libsccc.so")
+sys.dont_write_bytecode = True
+sys.path.insert(0, os.path.dirname(MODULE))
+
+import sccc  # noqa: E402
+
+try:
+    import numpy
+except ImportError:
+    numpy = None
+
+NOT_FORMATS = (0, 28, 256, 257, 2**32 + 1, 2**64 - 1, 2**64, 2**64 + 1, 2**128 + 1, -1)
+NOT_SMALL = (256, 2**32, 2**64 - 1, 2**64, -1, -(2**64))
+
+
+def seeded(seed, length):
+    bits = bytearray(length)
+    for i in range(length):
+        seed = (seed * 1103515245 + 12345) % 2147483648
+        bits[i] = seed // 65536 % 2
+    return bytes(bits)
+
+
+def digest(elements):
+    d = 1
+    for x in elements:
+        d = (d * 1000003 + x + 1) % 4294967291
+    return d
+
+
+def filled(length):
+    """Memory before a call: no element that a call would write there."""
+    return bytearray(64 + i % 191 for i in range(length))
+
+
+class Case(unittest.TestCase):
+    def assertRefused(self, number, call, *arguments, **keywords):
+        with self.assertRaises(sccc.ScccError) as caught:
+            call(*arguments, **keywords)
+        self.assertEqual(caught.exception.number, number)
+
+
+class Numbers(Case):
+    def test_formats_are_those_of_the_listing(self):
+        with open(os.path.join(ROOT, "crates", "formats", "stdout"), newline="") as listing:
+            rows = list(csv.DictReader(listing))
+        self.assertEqual(len(rows), sccc.FORMATS)
+        for row in rows:
+            info = sccc.format_info(int(row["format"]))
+            self.assertEqual(info[:5], tuple(int(row[name]) for name in ("m", "K", "I", "W", "N")))
+
+    def test_provisional_formats(self):
+        provisional = [f for f in range(1, sccc.FORMATS + 1) if sccc.format_info(f).provisional]
+        self.assertEqual(provisional, [12, 14])
+
+    def test_no_format(self):
+        for f in NOT_FORMATS:
+            self.assertRefused(1, sccc.format_info, f)
+            self.assertRefused(1, sccc.interleave, f, 0)
+            self.assertRefused(1, sccc.interleave, f, -1)
+            self.assertRefused(1, sccc.encode, f, b"")
+            self.assertRefused(1, sccc.labels, f, b"")
+            self.assertRefused(1, sccc.frame, f, b"")
+            self.assertRefused(1, sccc.compare, f, b"", b"")
+
+    def test_step(self):
+        for state in range(4):
+            for bit in range(2):
+                x0, x1 = divmod(state, 2)
+                self.assertEqual(sccc.step(state, bit), (bit, bit ^ x1, 2 * x1 + (x0 ^ x1 ^ bit)))
+        for state, bit in ((4, 0), (0, 2), (4, 2)):
+            self.assertRefused(3, sccc.step, state, bit)
+        for n in NOT_SMALL:
+            self.assertRefused(3, sccc.step, n, 0)
+            self.assertRefused(3, sccc.step, 0, n)
+
+    def test_interleave_is_equation_a_1(self):
+        rows = {}
+        with open(os.path.join(ROOT, "data", "annex-c.csv"), newline="") as table:
+            for row in csv.DictReader(table):
+                rows.setdefault(int(row["W"]), []).append((int(row["alpha"]), int(row["beta"])))
+        for f in range(1, sccc.FORMATS + 1):
+            info = sccc.format_info(f)
+            for i in [*range(0, info.i, 251), info.w - 1, info.w, info.i - 1]:
+                alpha, beta = rows[info.w][i % info.w]
+                self.assertEqual(sccc.interleave(f, i), info.w * ((i // info.w + beta) % 120) + alpha)
+            for i in (info.i, *NOT_SMALL[1:]):
+                self.assertRefused(8, sccc.interleave, f, i)
+
+    def test_a_number_is_an_integer(self):
+        self.assertRaises(TypeError, sccc.format_info, 13.0)
+        self.assertRaises(TypeError, sccc.step, "1", 0)
+        self.assertRaises(TypeError, sccc.section, bytes(sccc.FRAME_LABELS), None)
+
+
+class Blocks(Case):
+    def test_vectors(self):
+        with open(os.path.join(ROOT, "crates", "vectors", "stdout"), newline="") as listing:
+            rows = [row for row in csv.DictReader(listing) if row["block"] == "s1"]
+        self.assertEqual(len(rows), sccc.FORMATS)
+        for row in rows:
+            f = int(row["format"])
+            info = sccc.format_info(f)
+            work = bytearray(info.i)
+            codeword = sccc.encode(f, seeded(1000 + f, info.k), work=work)
+            self.assertEqual(digest(work), int(row["work"]))
+            self.assertEqual(digest(codeword), int(row["codeword"]))
+            self.assertEqual(digest(sccc.labels(f, codeword)), int(row["labels"]))
+
+    def test_encode_writes_no_more_than_it_says(self):
+        block = seeded(7, 5758)
+        codeword, outer = sccc.encode(1, block), bytearray(8640)
+        sccc.encode(1, block, work=outer)
+        work, out = filled(8645), filled(16205)
+        result = sccc.encode(1, block, work=work, out=out)
+        self.assertEqual(result, codeword)
+        self.assertEqual(work, outer + filled(8645)[8640:])
+        self.assertEqual(out, bytes(codeword) + filled(16205)[16200:])
+        self.assertIs(result.obj, out)
+
+    def test_encode_refusals(self):
+        good, bad = bytes(5758), bytes(5757) + b"\2"
+        for number, block, work, out in (
+            (2, b"", 0, 0),
+            (2, bad[1:], 0, 0),
+            (2, bad + b"\0", 0, 0),
+            (2, good[1:], 8640, 16200),
+            (2, good + b"\0", 8640, 16200),
+            (3, bad, 0, 0),
+            (3, bad, 8640, 16200),
+            (4, good, 0, 0),
+            (4, good, 8639, 16200),
+            (5, good, 8640, 0),
+            (5, good, 8640, 16199),
+        ):
+            w, o = filled(work), filled(out)
+            self.assertRefused(number, sccc.encode, 1, block, work=w, out=o)
+            self.assertEqual((w, o), (filled(work), filled(out)))
+        self.assertRefused(2, sccc.encode, 1, b"")
+        self.assertRefused(4, sccc.encode, 1, good, work=bytearray(8639))
+        self.assertRefused(5, sccc.encode, 1, good, out=bytearray(16199))
+
+    def test_labels(self):
+        for f in range(1, sccc.FORMATS + 1):
+            info = sccc.format_info(f)
+            codeword = bytes(sccc.SYMBOLS) + b"\1" * (info.n - sccc.SYMBOLS)
+            out = filled(sccc.SYMBOLS + 3)
+            self.assertEqual(sccc.labels(f, codeword, out=out), bytes([2 ** (info.m - 1) - 1]) * sccc.SYMBOLS)
+            self.assertEqual(out[sccc.SYMBOLS :], filled(len(out))[sccc.SYMBOLS :])
+            for number, given, room in (
+                (2, codeword[1:], 0),
+                (2, codeword + b"\0", 0),
+                (3, codeword[1:] + b"\2", 0),
+                (5, codeword, 8099),
+                (5, codeword, 0),
+            ):
+                out = filled(room)
+                self.assertRefused(number, sccc.labels, f, given, out=out)
+                self.assertEqual(out, filled(room))
+
+    def test_threads(self):
+        def codeword(f):
+            return bytes(sccc.encode(f, seeded(f, sccc.format_info(f).k)))
+
+        formats = range(1, sccc.FORMATS + 1)
+        with ThreadPoolExecutor(4) as pool:
+            self.assertEqual(list(pool.map(codeword, formats)), list(map(codeword, formats)))
+
+
+class Frames(Case):
+    def test_frame(self):
+        labels = bytes(i % 16 for i in range(sccc.FRAME_LABELS))
+        slots = sccc.frame(13, labels)
+        self.assertEqual((slots.format, len(slots)), ("H", sccc.FRAME_SLOTS))
+        self.assertEqual(slots[320:].tolist(), list(labels))
+        self.assertEqual(slots[:16].tolist(), [256 + int(bit) for bit in f"{0xFB44:016b}"])
+        self.assertEqual(set(slots[:320].tolist()), {256, 257})
+        out = array("H", [999]) * (sccc.FRAME_SLOTS + 3)
+        self.assertEqual(sccc.frame(13, labels, out=out), slots)
+        self.assertEqual(out[sccc.FRAME_SLOTS :], array("H", [999] * 3))
+
+    def test_frame_refusals(self):
+        good = bytes(sccc.FRAME_LABELS)
+        bad = good[1:] + b"\20"
+        for number, labels, room in (
+            (2, b"", 0),
+            (2, bad[1:], 0),
+            (2, bad + b"\0", sccc.FRAME_SLOTS),
+            (3, bad, 0),
+            (3, bad, sccc.FRAME_SLOTS),
+            (5, good, 0),
+            (5, good, sccc.FRAME_SLOTS - 1),
+        ):
+            out = array("H", [999]) * room
+            self.assertRefused(number, sccc.frame, 13, labels, out=out)
+            self.assertEqual(out, array("H", [999]) * room)
+        self.assertRefused(3, sccc.frame, 13, bad)
+
+    def test_section_is_the_callers_own_memory(self):
+        labels = bytearray(sccc.FRAME_LABELS)
+        for place in range(sccc.SECTIONS):
+            part = sccc.section(labels, place)
+            self.assertEqual(len(part), sccc.SYMBOLS)
+            part[0] = part[-1] = place + 1
+        for place in range(sccc.SECTIONS):
+            start = place * sccc.SYMBOLS
+            self.assertEqual((labels[start], labels[start + sccc.SYMBOLS - 1]), (place + 1, place + 1))
+        self.assertTrue(sccc.section(bytes(labels), 15).readonly)
+
+    def test_section_refusals(self):
+        labels = bytes(sccc.FRAME_LABELS)
+        for place in (16, *NOT_SMALL):
+            self.assertRefused(8, sccc.section, labels, place)
+            self.assertRefused(2, sccc.section, labels[1:], place)
+        self.assertRefused(2, sccc.section, labels + b"\0", 0)
+        self.assertRefused(2, sccc.section, b"", 16)
+
+    def test_compare(self):
+        a = bytearray(sccc.SYMBOLS)
+        b = bytearray(sccc.SYMBOLS)
+        self.assertEqual(sccc.compare(13, a, b), (True, 0, 0))
+        self.assertEqual(sccc.compare(13, a, a), (True, 0, 0))
+        b[0] = 15
+        self.assertEqual(sccc.compare(13, a, b), (False, 1, 0))
+        b[0], a[8099] = 0, 15
+        self.assertEqual(sccc.compare(13, a, b), (False, 1, 8099))
+        self.assertEqual(sccc.compare(13, bytes(8100), b"\1" * 8100), (False, 8100, 0))
+        b[8099] = 16
+        self.assertRefused(3, sccc.compare, 13, a, b)
+        self.assertRefused(3, sccc.compare, 13, b, a)
+        self.assertRefused(2, sccc.compare, 13, a, b[1:])
+        self.assertRefused(2, sccc.compare, 13, a + b"\0", b)
+        self.assertRefused(2, sccc.compare, 13, b"", b"")
+
+
+class Memory(Case):
+    block = seeded(5, 5758)
+
+    def test_kinds(self):
+        codeword = sccc.encode(1, self.block)
+        pages = mmap.mmap(-1, len(self.block))
+        pages[:] = self.block
+        rows = (ctypes.c_uint8 * 2879 * 2).from_buffer_copy(self.block)
+        for block in (
+            bytearray(self.block),
+            memoryview(self.block),
+            memoryview(b"\0" + self.block + b"\0")[1:-1],
+            memoryview(self.block).cast("?"),
+            memoryview(self.block).cast("c"),
+            array("B", self.block),
+            array("b", self.block),
+            (ctypes.c_uint8 * 5758).from_buffer_copy(self.block),
+            rows,
+            pages,
+        ):
+            self.assertEqual(sccc.encode(1, block), codeword)
+
+    def test_nothing_is_copied(self):
+        address = ctypes.cast(ctypes.c_char_p(self.block), ctypes.c_void_p).value
+        self.assertEqual(sccc._address(sccc._view("block", self.block)), address)
+        self.assertEqual(sccc._address(sccc._view("block", memoryview(self.block)[3:])), address + 3)
+        owned = array("H", [0] * 10)
+        self.assertEqual(sccc._address(sccc._view("out", owned, kind="H")), owned.buffer_info()[0])
+
+    def test_other_memory(self):
+        out = array("H", bytes(2 * sccc.FRAME_SLOTS))
+        labels = bytes(sccc.FRAME_LABELS)
+        for call in (
+            lambda: sccc.encode(1, "0" * 5758),
+            lambda: sccc.encode(1, [0] * 5758),
+            lambda: sccc.encode(1, None),
+            lambda: sccc.encode(1, array("H", bytes(5758))),
+            lambda: sccc.encode(1, memoryview(bytes(2 * 5758))[::2]),
+            lambda: sccc.encode(1, self.block, work=bytes(8640)),
+            lambda: sccc.encode(1, self.block, out=bytes(16200)),
+            lambda: sccc.encode(1, self.block, out=array("H", bytes(32400))),
+            lambda: sccc.labels(1, bytes(16200), out=memoryview(bytearray(16200))[::2]),
+            lambda: sccc.frame(1, out),
+            lambda: sccc.frame(1, labels, out=bytearray(2 * sccc.FRAME_SLOTS)),
+            lambda: sccc.frame(1, labels, out=memoryview(bytes(out)).cast("H")),
+            lambda: sccc.frame(1, labels, out=(ctypes.c_uint16.__ctype_be__ * sccc.FRAME_SLOTS)()),
+            lambda: sccc.frame(1, labels, out=array("h", bytes(out))),
+        ):
+            self.assertRaises(TypeError, call)
+
+    def test_overlapping_memory(self):
+        memory = memoryview(bytearray(100000))
+        for block, work, out in (
+            (memory[:5758], memory[5757:20000], memory[50000:]),
+            (memory[:5758], memory[50000:], memory[5757:30000]),
+            (memory[:5758], memory[10000:20000], memory[19999:50000]),
+        ):
+            self.assertRaises(ValueError, sccc.encode, 1, block, work=work, out=out)
+        self.assertEqual(bytes(memory), bytes(100000))
+        sccc.encode(1, memory[:5758], work=memory[5758:14398], out=memory[14398:30598])
+
+    def test_slots_are_aligned(self):
+        memory = memoryview(bytearray(2 * sccc.FRAME_SLOTS + 1))
+        self.assertRaises(ValueError, sccc.frame, 1, bytes(sccc.FRAME_LABELS), out=memory[1:].cast("H"))
+
+
+class Library(Case):
+    def test_error(self):
+        with self.assertRaises(sccc.ScccError) as caught:
+            sccc.step(4, 0)
+        error = pickle.loads(pickle.dumps(caught.exception))
+        self.assertEqual((error.number, error.meaning), (3, sccc.MEANINGS[3]))
+        self.assertEqual(str(error), "check 3: " + sccc.MEANINGS[3])
+        self.assertIsInstance(error, ValueError)
+
+    def elsewhere(self, code, **environment):
+        """A Python of its own, with a copy of the module that has no build/ beside it."""
+        with tempfile.TemporaryDirectory() as folder:
+            os.mkdir(os.path.join(folder, "python"))
+            shutil.copy(MODULE, os.path.join(folder, "python"))
+            variables = {**os.environ, "PYTHONPATH": os.path.join(folder, "python"), **environment}
+            if "SCCC_LIBRARY" not in environment:
+                variables.pop("SCCC_LIBRARY", None)
+            return subprocess.run([sys.executable, "-B", "-c", code], env=variables, capture_output=True, text=True)
+
+    def test_the_library_is_found(self):
+        call = "print(sccc.format_info(1).k)"
+        self.assertEqual(self.elsewhere(f"import sccc; {call}", SCCC_LIBRARY=LIBRARY).stdout, "5758\n")
+        self.assertEqual(self.elsewhere(f"import sccc; sccc.load({LIBRARY!r}); {call}").stdout, "5758\n")
+        self.assertEqual(
+            self.elsewhere(f"import pathlib, sccc; sccc.load(pathlib.Path({LIBRARY!r})); {call}", SCCC_LIBRARY="/none").stdout,
+            "5758\n",
+        )
+        self.assertIn("OSError", self.elsewhere(f"import sccc; {call}").stderr)
+        self.assertIn("OSError", self.elsewhere(f"import sccc; {call}", SCCC_LIBRARY="/none").stderr)
+
+
+@unittest.skipIf(numpy is None, "numpy is not installed")
+class Numpy(Case):
+    def test_arrays(self):
+        block = numpy.frombuffer(seeded(5, 5758), dtype=numpy.uint8)
+        codeword = sccc.encode(1, bytes(block))
+        out = numpy.zeros(16200, dtype=numpy.uint8)
+        self.assertTrue(numpy.shares_memory(numpy.asarray(sccc.encode(1, block, out=out)), out))
+        self.assertEqual(bytes(out), bytes(codeword))
+        self.assertEqual(sccc.encode(numpy.uint8(1), block.astype(bool)), codeword)
+        self.assertEqual(sccc.encode(1, block.astype(numpy.int8)), codeword)
+        self.assertEqual(sccc._address(sccc._view("block", block)), block.ctypes.data)
+
+    def test_frame(self):
+        labels = numpy.arange(sccc.FRAME_LABELS, dtype=numpy.uint32).reshape(16, 8100) % 16
+        labels = labels.astype(numpy.uint8)
+        slots = numpy.asarray(sccc.frame(13, labels))
+        self.assertEqual(slots.dtype, numpy.uint16)
+        self.assertTrue((slots[320:] == labels.ravel()).all())
+        self.assertTrue((numpy.asarray(sccc.section(labels, 3)) == labels[3]).all())
+        out = numpy.zeros(sccc.FRAME_SLOTS, dtype=numpy.uint16)
+        sccc.frame(13, labels, out=out)
+        self.assertTrue((out == slots).all())
+
+    def test_other_arrays(self):
+        bits = numpy.zeros(2 * 5758, dtype=numpy.uint8)
+        labels = bytes(sccc.FRAME_LABELS)
+        read_only = numpy.zeros(16200, dtype=numpy.uint8)
+        read_only.flags.writeable = False
+        for call in (
+            lambda: sccc.encode(1, bits[::2]),
+            lambda: sccc.encode(1, numpy.zeros(5758)),
+            lambda: sccc.encode(1, numpy.zeros(5758, dtype=numpy.int64)),
+            lambda: sccc.encode(1, bits[:5758], out=read_only),
+            lambda: sccc.section(numpy.asfortranarray(numpy.zeros((16, 8100), dtype=numpy.uint8)), 0),
+            lambda: sccc.frame(1, labels, out=numpy.zeros(sccc.FRAME_SLOTS, dtype=">u2")),
+            lambda: sccc.frame(1, labels, out=numpy.zeros(sccc.FRAME_SLOTS, dtype=numpy.float16)),
+        ):
+            self.assertRaises(TypeError, call)
+        self.assertRefused(2, sccc.encode, 1, numpy.zeros((16, 0), dtype=numpy.uint8))
+
+
+if __name__ == "__main__":
+    unittest.main()
