@@ -1,0 +1,50 @@
+/* A frame of format 13 from sixteen blocks of test bits; prints the digest of its slots.
+ *     cc -Iinclude examples/frame.c build/libsccc.a -o frame && ./frame */
+#include "sccc.h"
+
+#include <inttypes.h>
+#include <stdio.h>
+#include <stdlib.h>
+
+static void fill(uint64_t seed, uint8_t *block, size_t length)
+{
+    for (size_t i = 0; i < length; i++) {
+        seed = (seed * 1103515245 + 12345) % 2147483648;
+        block[i] = (uint8_t)(seed / 65536 % 2);
+    }
+}
+
+static uint64_t digest(const uint16_t *slots, size_t length)
+{
+    uint64_t d = 1;
+    for (size_t i = 0; i < length; i++)
+        d = (d * 1000003 + slots[i] + 1) % 4294967291;
+    return d;
+}
+
+static void pass(const char *call, unsigned number)
+{
+    if (number != SCCC_PASSED) {
+        fprintf(stderr, "%s: check %u failed\n", call, number);
+        exit(EXIT_FAILURE);
+    }
+}
+
+int main(void)
+{
+    static uint8_t block[SCCC_MAX_K], work[SCCC_MAX_I], codeword[SCCC_MAX_N];
+    static uint8_t labels[SCCC_FRAME_LABELS];
+    static uint16_t slots[SCCC_FRAME_SLOTS];
+    const uint64_t format = 13;
+    const sccc_format_info f = sccc_format(format);
+
+    for (uint64_t place = 0; place < SCCC_SECTIONS; place++) {
+        uint8_t *section = labels + sccc_section(labels, SCCC_FRAME_LABELS, place).start;
+        fill(2000 + 16 * format + place, block, f.k);
+        pass("encode", sccc_encode(format, block, f.k, work, f.i, codeword, f.n));
+        pass("labels", sccc_labels(format, codeword, f.n, section, SCCC_SYMBOLS));
+    }
+    pass("frame", sccc_frame(format, labels, SCCC_FRAME_LABELS, slots, SCCC_FRAME_SLOTS));
+    printf("format %" PRIu64 ", frame digest %" PRIu64 "\n", format, digest(slots, SCCC_FRAME_SLOTS));
+    return EXIT_SUCCESS;
+}
