@@ -1,8 +1,9 @@
 # make            prove every crate, build the programs and run them
 # make test       all tests; the last step is `rt ci`, from nothing and with the must-fail edits
+# make lib        build/libsccc.a and build/libsccc.so
 # make tables     write annex C's tables anew from data/annex-c.csv, and the expected output that rests on them
 # make expected   write the test programs' expected output anew, by the separately written encoder
-.PHONY: all test tables expected oracle
+.PHONY: all test lib tables expected oracle
 
 oracle_dir = tests/oracle
 oracle = $(oracle_dir)/target/release/oracle
@@ -15,7 +16,14 @@ test: oracle
 	tools/annex-c-tables --check
 	$(oracle) self-check
 	tests/expected --check
+	tools/build-lib
+	tests/c/run
+	python3 tests/python/test_sccc.py
+	tests/examples/run
 	rt ci
+
+lib:
+	tools/build-lib
 
 tables:
 	tools/annex-c-tables

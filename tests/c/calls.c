@@ -105,7 +105,7 @@ static void format(void)
         CHECK(2 * r.i == 3 * (r.k + 2));
         CHECK(r.i == 120 * r.w);
         CHECK(r.n == SCCC_SYMBOLS * r.m);
-        CHECK(r.provisional == (f == 12 || f == 14));
+        CHECK(r.provisional == STAND_IN(r.i));
         k = r.k > k ? r.k : k;
         i = r.i > i ? r.i : i;
         n = r.n > n ? r.n : n;

@@ -66,8 +66,11 @@ class Numbers(Case):
             self.assertEqual(info[:5], tuple(int(row[name]) for name in ("m", "K", "I", "W", "N")))
 
     def test_provisional_formats(self):
-        provisional = [f for f in range(1, sccc.FORMATS + 1) if sccc.format_info(f).provisional]
-        self.assertEqual(provisional, [12, 14])
+        with open(os.path.join(ROOT, "data", "annex-c.csv"), newline="") as table:
+            sizes = {int(row["size"]) for row in csv.DictReader(table) if row["source"] == "stand-in"}
+        for f in range(1, sccc.FORMATS + 1):
+            info = sccc.format_info(f)
+            self.assertEqual(info.provisional, info.i in sizes)
 
     def test_no_format(self):
         for f in NOT_FORMATS:
