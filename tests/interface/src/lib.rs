@@ -1,5 +1,8 @@
 //! The calls of include/sccc.h, linked from libsccc.a. A slice is handed over
-//! as a pointer and a number of elements.
+//! as a pointer and a number of elements; the pointer of an empty one is null,
+//! as C callers have it.
+
+use std::ptr::{null, null_mut};
 
 /// What `sccc_format` gives.
 #[repr(C)]
@@ -89,6 +92,22 @@ extern "C" {
     ) -> Comparison;
 }
 
+fn pointer<T>(list: &[T]) -> *const T {
+    if list.is_empty() {
+        null()
+    } else {
+        list.as_ptr()
+    }
+}
+
+fn pointer_mut<T>(list: &mut [T]) -> *mut T {
+    if list.is_empty() {
+        null_mut()
+    } else {
+        list.as_mut_ptr()
+    }
+}
+
 pub fn format(format: u64) -> FormatInfo {
     // SAFETY: it takes numbers alone.
     unsafe { sccc_format(format) }
@@ -109,11 +128,11 @@ pub fn encode(format: u64, block: &[u8], work: &mut [u8], out: &mut [u8]) -> u8 
     unsafe {
         sccc_encode(
             format,
-            block.as_ptr(),
+            pointer(block),
             block.len(),
-            work.as_mut_ptr(),
+            pointer_mut(work),
             work.len(),
-            out.as_mut_ptr(),
+            pointer_mut(out),
             out.len(),
         )
     }
@@ -124,9 +143,9 @@ pub fn labels(format: u64, codeword: &[u8], out: &mut [u8]) -> u8 {
     unsafe {
         sccc_labels(
             format,
-            codeword.as_ptr(),
+            pointer(codeword),
             codeword.len(),
-            out.as_mut_ptr(),
+            pointer_mut(out),
             out.len(),
         )
     }
@@ -137,9 +156,9 @@ pub fn frame(format: u64, labels: &[u8], out: &mut [u16]) -> u8 {
     unsafe {
         sccc_frame(
             format,
-            labels.as_ptr(),
+            pointer(labels),
             labels.len(),
-            out.as_mut_ptr(),
+            pointer_mut(out),
             out.len(),
         )
     }
@@ -147,10 +166,10 @@ pub fn frame(format: u64, labels: &[u8], out: &mut [u16]) -> u8 {
 
 pub fn section(labels: &[u8], place: u64) -> SectionRange {
     // SAFETY: as in encode.
-    unsafe { sccc_section(labels.as_ptr(), labels.len(), place) }
+    unsafe { sccc_section(pointer(labels), labels.len(), place) }
 }
 
 pub fn compare(format: u64, a: &[u8], b: &[u8]) -> Comparison {
     // SAFETY: as in encode.
-    unsafe { sccc_compare(format, a.as_ptr(), a.len(), b.as_ptr(), b.len()) }
+    unsafe { sccc_compare(format, pointer(a), a.len(), pointer(b), b.len()) }
 }
