@@ -110,6 +110,7 @@ pub struct Arguments {
     block: Vec<u8>,
     codeword: Vec<u8>,
     labels: Vec<u8>,
+    equal_labels: Vec<u8>,
     changed_labels: Vec<u8>,
     frame_labels: Vec<u8>,
 }
@@ -128,6 +129,7 @@ impl Arguments {
             block,
             codeword: buffers.codeword,
             frame_labels: buffers.labels.repeat(SECTIONS),
+            equal_labels: buffers.labels.clone(),
             labels: buffers.labels,
             changed_labels,
         }
@@ -162,7 +164,7 @@ pub fn make(call: Call, side: &impl Side, a: &Arguments, b: &mut Buffers) -> Com
         Call::Encode => side.encode(format, &a.block, &mut b.work, &mut b.codeword),
         Call::Labels => side.labels(format, &a.codeword, &mut b.labels),
         Call::Frame => side.frame(format, &a.frame_labels, &mut b.frame),
-        Call::CompareSame => return side.compare(format, &a.labels, &a.labels),
+        Call::CompareSame => return side.compare(format, &a.labels, &a.equal_labels),
         Call::CompareDiffer => return side.compare(format, &a.labels, &a.changed_labels),
     };
     Comparison {
