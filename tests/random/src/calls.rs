@@ -1,0 +1,444 @@
+//! One comparison of each call with the oracle, on arguments drawn at random.
+
+use crate::draw::{self, Plan};
+use crate::generator::Generator;
+use crate::lent::Lent;
+use crate::tally::Met;
+use crate::tally::Outcome::{self, Different, Passed, Refused, Same};
+use interface::{Comparison, FormatInfo, Interleaved, SectionRange, Stepped};
+use oracle::annex_c::{AnnexC, UpperPosition};
+use oracle::checks::{self, ELEMENT, FORMAT, LENGTH, OUTPUT, PASSED, POSITION, WORKSPACE};
+use oracle::framing::{self, FRAME_LABELS, FRAME_SLOTS, SECTIONS};
+use oracle::tables::{self, Format, SECTION};
+use oracle::{compare, encoder, trellis};
+use std::fmt::Debug;
+
+/// What a comparison gives, or the arguments and the first difference.
+pub type Compared = Result<Met, String>;
+
+/// A call: its name, the outcomes it can have, how often it is drawn, and its
+/// comparison.
+pub struct Call {
+    pub name: &'static str,
+    pub outcomes: &'static [Outcome],
+    pub weight: usize,
+    pub compare: fn(&mut Generator, &AnnexC) -> Compared,
+}
+
+pub const CALLS: [Call; 8] = [
+    Call {
+        name: "format",
+        outcomes: &[Passed, Refused(FORMAT)],
+        weight: 2,
+        compare: format_call,
+    },
+    Call {
+        name: "step",
+        outcomes: &[Passed, Refused(ELEMENT)],
+        weight: 2,
+        compare: step_call,
+    },
+    Call {
+        name: "interleave",
+        outcomes: &[Passed, Refused(FORMAT), Refused(POSITION)],
+        weight: 6,
+        compare: interleave_call,
+    },
+    Call {
+        name: "encode",
+        outcomes: &[
+            Passed,
+            Refused(FORMAT),
+            Refused(LENGTH),
+            Refused(ELEMENT),
+            Refused(WORKSPACE),
+            Refused(OUTPUT),
+        ],
+        weight: 6,
+        compare: encode_call,
+    },
+    Call {
+        name: "labels",
+        outcomes: &[
+            Passed,
+            Refused(FORMAT),
+            Refused(LENGTH),
+            Refused(ELEMENT),
+            Refused(OUTPUT),
+        ],
+        weight: 4,
+        compare: labels_call,
+    },
+    Call {
+        name: "frame",
+        outcomes: &[
+            Passed,
+            Refused(FORMAT),
+            Refused(LENGTH),
+            Refused(ELEMENT),
+            Refused(OUTPUT),
+        ],
+        weight: 3,
+        compare: frame_call,
+    },
+    Call {
+        name: "section",
+        outcomes: &[Passed, Refused(LENGTH), Refused(POSITION)],
+        weight: 2,
+        compare: section_call,
+    },
+    Call {
+        name: "compare",
+        outcomes: &[
+            Same,
+            Different,
+            Refused(FORMAT),
+            Refused(LENGTH),
+            Refused(ELEMENT),
+        ],
+        weight: 6,
+        compare: compare_call,
+    },
+];
+
+/// What is met where the oracle expects a number.
+fn outcome(number: u64) -> Outcome {
+    match number {
+        PASSED => Passed,
+        number => Refused(number),
+    }
+}
+
+/// The same, with the format.
+fn met(number: u64, f: &Format) -> Met {
+    Met {
+        outcome: outcome(number),
+        format: Some(f.number).filter(|_| number == PASSED),
+    }
+}
+
+/// Met, unless something differs; then what, and the arguments.
+fn compared<const N: usize>(
+    arguments: String,
+    met: Met,
+    results: [Result<(), String>; N],
+) -> Compared {
+    let first: Result<(), String> = results.into_iter().collect();
+    match first {
+        Ok(()) => Ok(met),
+        Err(difference) => Err(format!("{difference}\n  arguments: {arguments}")),
+    }
+}
+
+fn equal<T: Debug + PartialEq>(found: T, expected: T) -> Result<(), String> {
+    if found == expected {
+        return Ok(());
+    }
+    Err(format!("the answer is {found:?} instead of {expected:?}"))
+}
+
+fn format_call(generator: &mut Generator, annex_c: &AnnexC) -> Compared {
+    let f = draw::format(generator);
+    let wrong = generator.coin();
+    let number = draw::format_number(generator, &f, wrong);
+    let expected = match tables::format(number) {
+        Some(f) => FormatInfo {
+            number: PASSED,
+            m: f.m as u64,
+            k: f.K as u64,
+            i: f.I as u64,
+            w: f.W() as u64,
+            n: f.N as u64,
+            provisional: annex_c.of_size(f.I).has_stand_in_rows().into(),
+        },
+        None => FormatInfo {
+            number: FORMAT,
+            m: 0,
+            k: 0,
+            i: 0,
+            w: 0,
+            n: 0,
+            provisional: 0,
+        },
+    };
+    let found = interface::format(number);
+    compared(
+        format!("format {number}"),
+        met(expected.number, &f),
+        [equal(found, expected)],
+    )
+}
+
+fn step_call(generator: &mut Generator, _: &AnnexC) -> Compared {
+    let wrong = generator.coin();
+    let [wrong_state, wrong_bit] = draw::either(generator, wrong);
+    let mut state = generator.below(4) as u64;
+    let mut bit = generator.below(2) as u64;
+    if wrong_state {
+        state = draw::outside(generator, state, 4);
+    }
+    if wrong_bit {
+        bit = draw::outside(generator, bit, 2);
+    }
+    let number = checks::step(state, bit);
+    let mut expected = Stepped {
+        number,
+        systematic: 0,
+        parity: 0,
+        state: 0,
+    };
+    if let (PASSED, Some(x)) = (number, trellis::state_of(state)) {
+        let [systematic, parity] = trellis::output(x, bit as u8);
+        expected.systematic = systematic.into();
+        expected.parity = parity.into();
+        expected.state = trellis::state_number(trellis::next(x, bit as u8));
+    }
+    let found = interface::step(state, bit);
+    compared(
+        format!("state {state}, bit {bit}"),
+        Met {
+            outcome: outcome(number),
+            format: None,
+        },
+        [equal(found, expected)],
+    )
+}
+
+fn interleave_call(generator: &mut Generator, annex_c: &AnnexC) -> Compared {
+    let plan = Plan::new(generator, &[FORMAT, POSITION]);
+    let f = draw::format(generator);
+    let fails = plan.fails(generator, FORMAT);
+    let format = draw::format_number(generator, &f, fails);
+    let random = generator.below(f.I);
+    let mut position =
+        generator.pick(&[0, f.W() - 1, f.W(), f.I - 1, random, random, random]) as u64;
+    if plan.fails(generator, POSITION) {
+        position = draw::outside(generator, position, f.I as u64);
+    }
+    let number = checks::interleave(format, position);
+    let pi = || annex_c.of_size(f.I).pi(UpperPosition(position as usize)).0;
+    let expected = Interleaved {
+        number,
+        position: if number == PASSED { pi() as u64 } else { 0 },
+    };
+    let found = interface::interleave(format, position);
+    compared(
+        format!("format {format}, position {position}"),
+        met(number, &f),
+        [equal(found, expected)],
+    )
+}
+
+fn encode_call(generator: &mut Generator, annex_c: &AnnexC) -> Compared {
+    let plan = Plan::new(generator, &[FORMAT, LENGTH, ELEMENT, WORKSPACE, OUTPUT]);
+    let f = draw::format(generator);
+    let fails = plan.fails(generator, FORMAT);
+    let format = draw::format_number(generator, &f, fails);
+    let fails = plan.fails(generator, LENGTH);
+    let length = draw::exact_length(generator, &f, |f| f.K, fails);
+    let mut block = draw::list(generator, length, 1);
+    if plan.fails(generator, ELEMENT) {
+        draw::spoil(generator, &mut block, 1);
+    }
+    let fails = plan.fails(generator, WORKSPACE);
+    let work_length = draw::room(generator, f.I, fails);
+    let fails = plan.fails(generator, OUTPUT);
+    let out_length = draw::room(generator, f.N, fails);
+    let block = Lent::new(generator, &block);
+    let mut work = Lent::filled(generator, work_length);
+    let mut out = Lent::filled(generator, out_length);
+
+    let number = checks::encode(format, block.list(), work_length, out_length);
+    let (workspace, codeword) = if number == PASSED {
+        let encoded = encoder::encode(&f, annex_c.of_size(f.I), block.list());
+        (encoded.workspace, encoded.codeword)
+    } else {
+        (vec![], vec![])
+    };
+    let found = interface::encode(format, block.list(), work.list_mut(), out.list_mut());
+    compared(
+        format!("format {format}, block of {length}, workspace of {work_length}, output of {out_length}"),
+        met(number, &f),
+        [
+            equal(u64::from(found), number),
+            block.unchanged("the block"),
+            work.holds("the workspace", &workspace),
+            out.holds("the output", &codeword),
+        ],
+    )
+}
+
+fn labels_call(generator: &mut Generator, _: &AnnexC) -> Compared {
+    let plan = Plan::new(generator, &[FORMAT, LENGTH, ELEMENT, OUTPUT]);
+    let f = draw::format(generator);
+    let fails = plan.fails(generator, FORMAT);
+    let format = draw::format_number(generator, &f, fails);
+    let fails = plan.fails(generator, LENGTH);
+    let length = draw::exact_length(generator, &f, |f| f.N, fails);
+    let mut codeword = draw::list(generator, length, 1);
+    if plan.fails(generator, ELEMENT) {
+        draw::spoil(generator, &mut codeword, 1);
+    }
+    let fails = plan.fails(generator, OUTPUT);
+    let out_length = draw::room(generator, SECTION, fails);
+    let codeword = Lent::new(generator, &codeword);
+    let mut out = Lent::filled(generator, out_length);
+
+    let number = checks::labels(format, codeword.list(), out_length);
+    let labels = if number == PASSED {
+        encoder::labels(&f, codeword.list())
+    } else {
+        vec![]
+    };
+    let found = interface::labels(format, codeword.list(), out.list_mut());
+    compared(
+        format!("format {format}, codeword of {length}, output of {out_length}"),
+        met(number, &f),
+        [
+            equal(u64::from(found), number),
+            codeword.unchanged("the codeword"),
+            out.holds("the output", &labels),
+        ],
+    )
+}
+
+fn frame_call(generator: &mut Generator, _: &AnnexC) -> Compared {
+    let plan = Plan::new(generator, &[FORMAT, LENGTH, ELEMENT, OUTPUT]);
+    let f = draw::format(generator);
+    let fails = plan.fails(generator, FORMAT);
+    let format = draw::format_number(generator, &f, fails);
+    let fails = plan.fails(generator, LENGTH);
+    let length = draw::exact_length(generator, &f, |_| FRAME_LABELS, fails);
+    let mut labels = draw::list(generator, length, f.m);
+    if plan.fails(generator, ELEMENT) {
+        draw::spoil(generator, &mut labels, f.m);
+    }
+    let fails = plan.fails(generator, OUTPUT);
+    let out_length = draw::room(generator, FRAME_SLOTS, fails);
+    let labels = Lent::new(generator, &labels);
+    let mut out = Lent::filled_words(generator, out_length);
+
+    let number = checks::frame(format, labels.list(), out_length);
+    let frame = if number == PASSED {
+        framing::frame(&f, labels.list())
+    } else {
+        vec![]
+    };
+    let found = interface::frame(format, labels.list(), out.list_mut());
+    compared(
+        format!("format {format}, {length} labels, output of {out_length} slots"),
+        met(number, &f),
+        [
+            equal(u64::from(found), number),
+            labels.unchanged("the list of labels"),
+            out.holds("the output", &frame),
+        ],
+    )
+}
+
+fn section_call(generator: &mut Generator, _: &AnnexC) -> Compared {
+    let plan = Plan::new(generator, &[LENGTH, POSITION]);
+    let f = draw::format(generator);
+    let fails = plan.fails(generator, LENGTH);
+    let length = draw::exact_length(generator, &f, |_| FRAME_LABELS, fails);
+    let labels = Lent::filled(generator, length);
+    let mut place = generator.below(SECTIONS) as u64;
+    if plan.fails(generator, POSITION) {
+        place = draw::outside(generator, place, SECTIONS as u64);
+    }
+
+    let number = checks::section(labels.list(), place);
+    let section = if number == PASSED {
+        framing::section(labels.list(), place as usize)
+    } else {
+        &[]
+    };
+    let found = interface::section(labels.list(), place);
+    // The section is found by its content: the labels are random.
+    let from = labels.list().get(found.start as usize..);
+    let part = from.and_then(|from| from.get(..found.length as usize));
+    compared(
+        format!("{length} labels, place {place}"),
+        Met {
+            outcome: outcome(number),
+            format: None,
+        },
+        [
+            equal(
+                found,
+                SectionRange {
+                    number,
+                    start: if number == PASSED {
+                        place * SECTION as u64
+                    } else {
+                        0
+                    },
+                    length: section.len() as u64,
+                },
+            ),
+            equal(part, Some(section)).map_err(|_| "the section's labels are others".into()),
+            labels.unchanged("the list of labels"),
+        ],
+    )
+}
+
+fn compare_call(generator: &mut Generator, _: &AnnexC) -> Compared {
+    let plan = Plan::new(generator, &[FORMAT, LENGTH, ELEMENT]);
+    let f = draw::format(generator);
+    let fails = plan.fails(generator, FORMAT);
+    let format = draw::format_number(generator, &f, fails);
+    let fails = plan.fails(generator, LENGTH);
+    let lengths = draw::either(generator, fails)
+        .map(|wrong| draw::exact_length(generator, &f, |_| SECTION, wrong));
+    let mut lists = lists_of(generator, lengths, f.m);
+    let fails = plan.fails(generator, ELEMENT);
+    let spoilt = draw::either(generator, fails);
+    for (list, _) in lists.iter_mut().zip(spoilt).filter(|(_, spoilt)| *spoilt) {
+        draw::spoil(generator, list, f.m);
+    }
+    let [a, b] = lists.map(|list| Lent::new(generator, &list));
+    // Now and then the first list twice: two lists that are only read may overlap.
+    let twice = generator.below(16) == 0;
+    let [first, second] = [a.list(), if twice { a.list() } else { b.list() }];
+
+    let number = checks::compare(format, first, second);
+    let mut expected = Comparison {
+        number,
+        same: 0,
+        count: 0,
+        first: 0,
+    };
+    let mut met = met(number, &f);
+    if number == PASSED {
+        let comparison = compare::compare(first, second);
+        expected.same = comparison.same.into();
+        expected.count = comparison.count;
+        expected.first = comparison.first;
+        met.outcome = if comparison.same { Same } else { Different };
+    }
+    let found = interface::compare(format, first, second);
+    compared(
+        format!(
+            "format {format}, lists of {} and {}",
+            first.len(),
+            second.len()
+        ),
+        met,
+        [
+            equal(found, expected),
+            a.unchanged("the first list"),
+            b.unchanged("the second list"),
+        ],
+    )
+}
+
+/// Two lists of labels that have much in common.
+fn lists_of(generator: &mut Generator, lengths: [usize; 2], m: usize) -> [Vec<u8>; 2] {
+    let longer = lengths[0].max(lengths[1]);
+    let mut first = draw::list(generator, longer, m);
+    let mut second = first.clone();
+    first.truncate(lengths[0]);
+    second.truncate(lengths[1]);
+    draw::change(generator, &mut second, m);
+    [first, second]
+}

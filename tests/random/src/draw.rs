@@ -1,0 +1,166 @@
+//! Random arguments, with and without faults.
+
+use crate::generator::Generator;
+use oracle::tables::{self, Format};
+
+/// Which check a case is meant to fail first. The checks before it are to pass;
+/// those after it fail as often as not, so that their order is seen.
+pub struct Plan {
+    first: Option<u64>,
+}
+
+impl Plan {
+    /// One of the checks of a call, or none.
+    pub fn new(generator: &mut Generator, checks: &[u64]) -> Plan {
+        let at = generator.below(checks.len() + 2);
+        Plan {
+            first: checks.get(at).copied(),
+        }
+    }
+
+    /// Whether a check is to fail.
+    pub fn fails(&self, generator: &mut Generator, check: u64) -> bool {
+        match self.first {
+            None => false,
+            Some(first) => check == first || (check > first && generator.coin()),
+        }
+    }
+}
+
+pub fn format(generator: &mut Generator) -> Format {
+    generator.pick(tables::formats())
+}
+
+/// The number of a format, or one that no format has.
+pub fn format_number(generator: &mut Generator, f: &Format, fails: bool) -> u64 {
+    if !fails {
+        return f.number;
+    }
+    if generator.below(8) == 0 {
+        return 0;
+    }
+    let bound = tables::formats().len() as u64 + 1;
+    outside(generator, f.number, bound)
+}
+
+/// A number that is most likely not below the bound: just above it, a good one
+/// with a high bit, at the end of a width, or any.
+pub fn outside(generator: &mut Generator, good: u64, bound: u64) -> u64 {
+    match generator.below(4) {
+        0 => generator.pick(&[bound, bound + 1]),
+        1 => good + (1 << generator.pick(&[8, 16, 31, 32, 48, 63])),
+        2 => generator.pick(&[257, (1 << 32) + 1, 1 << 63, u64::MAX]),
+        _ => generator.number(),
+    }
+}
+
+/// The length that a call takes, or another one: off by one, far off, or right
+/// for another format.
+pub fn exact_length(
+    generator: &mut Generator,
+    f: &Format,
+    length: impl Fn(&Format) -> usize,
+    fails: bool,
+) -> usize {
+    let right = length(f);
+    if !fails {
+        return right;
+    }
+    match generator.below(6) {
+        0 => 0,
+        1 => right - 1,
+        2 => right + 1,
+        3 => right + 256,
+        4 => length(&format(generator)),
+        _ => generator.below(2 * right),
+    }
+}
+
+/// A length that is at least so much, or less.
+pub fn room(generator: &mut Generator, least: usize, fails: bool) -> usize {
+    match (fails, generator.below(4)) {
+        (false, 0 | 1) => least,
+        (false, 2) => least + 1,
+        (false, _) => least + generator.below(3000),
+        (true, 0 | 1) => least - 1,
+        (true, 2) => 0,
+        (true, _) => generator.below(least),
+    }
+}
+
+/// The largest element of m bits.
+fn top(m: usize) -> u8 {
+    ((1u16 << m) - 1) as u8
+}
+
+/// Elements of m bits: random ones as a rule; else one value throughout, or a
+/// single element that is not 0.
+pub fn list(generator: &mut Generator, length: usize, m: usize) -> Vec<u8> {
+    let mut list = vec![0; length];
+    match generator.below(8) {
+        0 => {}
+        1 => list.fill(top(m)),
+        2 if length > 0 => list[generator.below(length)] = top(m),
+        _ => {
+            list = generator.bytes(length);
+            list.iter_mut().for_each(|x| *x &= top(m));
+        }
+    }
+    list
+}
+
+/// Puts an illegal element at the first place, at the last or at any, or some.
+pub fn spoil(generator: &mut Generator, list: &mut [u8], m: usize) {
+    if list.is_empty() {
+        return;
+    }
+    let length = list.len();
+    let places = match generator.below(4) {
+        0 => vec![0],
+        1 => vec![length - 1],
+        2 => vec![generator.below(length)],
+        _ => (0..5).map(|_| generator.below(length)).collect(),
+    };
+    for place in places {
+        list[place] = illegal(generator, m);
+    }
+}
+
+fn illegal(generator: &mut Generator, m: usize) -> u8 {
+    let least = top(m) + 1;
+    match generator.below(3) {
+        0 => least,
+        1 => u8::MAX,
+        _ => least + generator.below(usize::from(u8::MAX - least) + 1) as u8,
+    }
+}
+
+/// Changes no element, one (the first, the last or any), some, or about half.
+/// They stay elements of m bits.
+pub fn change(generator: &mut Generator, list: &mut [u8], m: usize) {
+    if list.is_empty() {
+        return;
+    }
+    let length = list.len();
+    let places = match generator.below(6) {
+        0 => vec![],
+        1 => vec![0],
+        2 => vec![length - 1],
+        3 => vec![generator.below(length)],
+        4 => (0..20).map(|_| generator.below(length)).collect(),
+        _ => (0..length).filter(|_| generator.coin()).collect(),
+    };
+    for place in places {
+        list[place] ^= 1 + generator.below(usize::from(top(m))) as u8;
+    }
+}
+
+/// Which of two lists have a fault: the first, the second or both; none if
+/// there is no fault.
+pub fn either(generator: &mut Generator, fails: bool) -> [bool; 2] {
+    if fails {
+        generator.pick(&[[true, false], [false, true], [true, true]])
+    } else {
+        [false, false]
+    }
+}

@@ -1,0 +1,212 @@
+//! A plain encoder to time the library against: the same calls with the same
+//! checks, all tables made beforehand, ordinary loops.
+
+use interface::Comparison;
+use oracle::annex_c::AnnexC;
+use oracle::framing::{FRAME_LABELS, FRAME_SLOTS};
+use oracle::tables::{Format, SECTION};
+use oracle::{encoder, framing};
+
+/// What is worked out once for a format.
+struct Tables {
+    format: Format,
+    /// The interleaved position of each position in the upper register.
+    pi: Vec<u32>,
+    /// Where the bits stand that the upper register keeps, in order.
+    upper: Vec<u32>,
+    /// Whether the lower register keeps a bit.
+    lower: Vec<bool>,
+    /// The frame's slots before the labels.
+    header: Vec<u16>,
+}
+
+impl Tables {
+    fn new(format: &Format, annex_c: &AnnexC) -> Tables {
+        let interleaver = annex_c.of_size(format.I);
+        let pi: Vec<u32> = (interleaver.permutation().iter())
+            .map(|position| position.0 as u32)
+            .collect();
+        let upper_kept = encoder::upper_kept(format, interleaver);
+        let upper = (pi.iter().zip(upper_kept))
+            .filter(|(_, kept)| *kept)
+            .map(|(position, _)| *position)
+            .collect();
+        Tables {
+            format: *format,
+            pi,
+            upper,
+            lower: encoder::lower_kept(format)[..format.I].to_vec(),
+            header: framing::frame(format, &[]),
+        }
+    }
+}
+
+/// The tables of some formats, each at its format's number.
+pub struct Plain {
+    tables: Vec<Option<Tables>>,
+}
+
+impl Plain {
+    pub fn new(annex_c: &AnnexC, formats: &[Format]) -> Plain {
+        let mut tables = Vec::new();
+        for f in formats {
+            let at = f.number as usize;
+            tables.resize_with(tables.len().max(at + 1), || None);
+            tables[at] = Some(Tables::new(f, annex_c));
+        }
+        Plain { tables }
+    }
+
+    fn tables(&self, format: u64) -> Option<&Tables> {
+        self.tables.get(usize::try_from(format).ok()?)?.as_ref()
+    }
+
+    pub fn encode(&self, format: u64, block: &[u8], work: &mut [u8], out: &mut [u8]) -> u8 {
+        let Some(t) = self.tables(format) else {
+            return 1;
+        };
+        let f = &t.format;
+        if block.len() != f.K {
+            return 2;
+        }
+        if !all_at_most(block, 1) {
+            return 3;
+        }
+        if work.len() < f.I {
+            return 4;
+        }
+        if out.len() < f.N {
+            return 5;
+        }
+        let work = &mut work[..f.I];
+        outer(block, work);
+        let (upper, lower) = out[..f.N].split_at_mut(f.S);
+        inner(t, work, upper, lower);
+        0
+    }
+
+    pub fn labels(&self, format: u64, codeword: &[u8], out: &mut [u8]) -> u8 {
+        let Some(t) = self.tables(format) else {
+            return 1;
+        };
+        if codeword.len() != t.format.N {
+            return 2;
+        }
+        if !all_at_most(codeword, 1) {
+            return 3;
+        }
+        if out.len() < SECTION {
+            return 5;
+        }
+        let out = &mut out[..SECTION];
+        out.fill(0);
+        for column in codeword.chunks_exact(SECTION) {
+            for (label, bit) in out.iter_mut().zip(column) {
+                *label = 2 * *label + bit;
+            }
+        }
+        0
+    }
+
+    pub fn frame(&self, format: u64, labels: &[u8], out: &mut [u16]) -> u8 {
+        let Some(t) = self.tables(format) else {
+            return 1;
+        };
+        if labels.len() != FRAME_LABELS {
+            return 2;
+        }
+        if !all_at_most(labels, top_label(&t.format)) {
+            return 3;
+        }
+        if out.len() < FRAME_SLOTS {
+            return 5;
+        }
+        let (header, slots) = out[..FRAME_SLOTS].split_at_mut(t.header.len());
+        header.copy_from_slice(&t.header);
+        for (slot, label) in slots.iter_mut().zip(labels) {
+            *slot = u16::from(*label);
+        }
+        0
+    }
+
+    pub fn compare(&self, format: u64, a: &[u8], b: &[u8]) -> Comparison {
+        let Some(t) = self.tables(format) else {
+            return comparison(1, 0, 0, 0);
+        };
+        if a.len() != SECTION || b.len() != SECTION {
+            return comparison(2, 0, 0, 0);
+        }
+        let top = top_label(&t.format);
+        if !all_at_most(a, top) || !all_at_most(b, top) {
+            return comparison(3, 0, 0, 0);
+        }
+        let count = a.iter().zip(b).filter(|(a, b)| a != b).count();
+        if count == 0 {
+            return comparison(0, 1, 0, 0);
+        }
+        let first = a.iter().zip(b).position(|(a, b)| a != b);
+        comparison(0, 0, count as u64, first.unwrap_or(0) as u64)
+    }
+}
+
+fn comparison(number: u64, same: u64, count: u64, first: u64) -> Comparison {
+    Comparison {
+        number,
+        same,
+        count,
+        first,
+    }
+}
+
+fn top_label(format: &Format) -> u8 {
+    (1 << format.m) - 1
+}
+
+/// Looks at every element, whatever the first ones are: this way the compiler
+/// takes many at once.
+fn all_at_most(list: &[u8], top: u8) -> bool {
+    list.iter().fold(0, |most, &x| most.max(x)) <= top
+}
+
+/// The outer encoder: systematic, parity, systematic for each pair of bits.
+fn outer(block: &[u8], work: &mut [u8]) {
+    let (mut x0, mut x1) = (0, 0);
+    let end = block.len() / 2 * 3;
+    for (bits, kept) in block.chunks_exact(2).zip(work.chunks_exact_mut(3)) {
+        let (u, v) = (bits[0], bits[1]);
+        let y = x0 ^ x1 ^ u;
+        kept[0] = u;
+        kept[1] = u ^ x1;
+        kept[2] = v;
+        (x0, x1) = (y, x1 ^ y ^ v);
+    }
+    let [s0, p0, s1, _] = terminate(x0, x1);
+    work[end..].copy_from_slice(&[s0, p0, s1]);
+}
+
+/// The inner encoder: the kept systematic bits to upper, the kept parity bits
+/// to lower.
+fn inner(t: &Tables, work: &[u8], upper: &mut [u8], lower: &mut [u8]) {
+    for (bit, position) in upper.iter_mut().zip(&t.upper) {
+        *bit = work[*position as usize];
+    }
+    let (mut x0, mut x1) = (0, 0);
+    let mut n = 0;
+    for (position, kept) in t.pi.iter().zip(&t.lower) {
+        let u = work[*position as usize];
+        if *kept {
+            lower[n] = u ^ x1;
+            n += 1;
+        }
+        (x0, x1) = (x1, x0 ^ x1 ^ u);
+    }
+    let [s0, p0, s1, p1] = terminate(x0, x1);
+    upper[t.upper.len()..].copy_from_slice(&[s0, s1]);
+    lower[n..].copy_from_slice(&[p0, p1]);
+}
+
+/// The two terminating steps: systematic and parity of the first, then of the
+/// second. Each step's bit makes the new x1 0.
+fn terminate(x0: u8, x1: u8) -> [u8; 4] {
+    [x0 ^ x1, x0, x1, x1]
+}
