@@ -1,21 +1,47 @@
 -- Laws of the scan for illegal elements.
-use mathlib.Core.Path.{_≡_}
-use mathlib.Core.Bool.{true, false, false≢true}
+use mathlib.Core.Path.{_≡_, refl, sym}
+use mathlib.Core.Bool.{Bool, true, false, _&&_, false≢true}
 use mathlib.Core.List.{List, [], _∷_, _++_}
 use Prim.Native.Nat.{ℕ, zero, suc, zero-le, _+_, _≤_, _<_}
-use borrow.Author.Tests.{le-leb, lt-leb, leb-true}
+use native.Mathlib.Omega.{arith}
+use borrow.Author.Tests.{le-leb, leb-true}
 use lib.Dec.{leb}
-use lib.ListN.{length, getD, drop}
+use lib.ListN.{length, getD, drop, drop-of-length-le}
 use Rattle.bits.specs.Legal.{allAtMost}
 use Rattle.bits.proofs.Cases.{by-cases}
 use Rattle.bits.proofs.Lists.{drop-next}
 
--- what one more element says of the rest
-pub legal-next : (top : ℕ) (l : List ℕ) (i : ℕ) → i < length l → getD l i 0 ≤ top → allAtMost top (drop i l) ≡ allAtMost top (drop (i + 1) l)
-legal-next top l i h low = rw (drop-next l i h, le-leb (getD l i 0) top low)
+and-false : (b : Bool) → (b && false) ≡ false
+and-false true = refl
+and-false false = refl
 
-pub illegal-next : (top : ℕ) (l : List ℕ) (i : ℕ) → i < length l → top < getD l i 0 → allAtMost top (drop i l) ≡ false
-illegal-next top l i h high = rw (drop-next l i h, lt-leb (getD l i 0) top high)
+and-true : (b : Bool) → (b && true) ≡ b
+and-true true = refl
+and-true false = refl
+
+-- a list whose largest element so far is m: one more element, above m or not
+pub larger-next : (top m : ℕ) (l : List ℕ) (i : ℕ) → i < length l → m < getD l i 0
+    → (leb m top && allAtMost top (drop i l)) ≡ (leb (getD l i 0) top && allAtMost top (drop (i + 1) l))
+larger-next top m l i h up =
+    by-cases
+    (leb (getD l i 0) top)
+    (λ e. rw (drop-next l i h, e, le-leb m top (omega (arith, up, leb-true (getD l i 0) top e))))
+    (λ e. rw (drop-next l i h, e) (and-false (leb m top)))
+
+pub smaller-next : (top m : ℕ) (l : List ℕ) (i : ℕ) → i < length l → getD l i 0 ≤ m
+    → (leb m top && allAtMost top (drop i l)) ≡ (leb m top && allAtMost top (drop (i + 1) l))
+smaller-next top m l i h low =
+    by-cases
+    (leb m top)
+    (λ e. rw (drop-next l i h, e, le-leb (getD l i 0) top (omega (arith, low, leb-true m top e))))
+    (λ e. rw e)
+
+-- before the first element, and after the last
+pub largest-start : (top : ℕ) (l : List ℕ) → allAtMost top l ≡ (leb 0 top && allAtMost top (drop 0 l))
+largest-start top l = rw (le-leb 0 top zero-le)
+
+pub largest-end : (top m : ℕ) (l : List ℕ) (i : ℕ) → length l ≤ i → leb m top ≡ (leb m top && allAtMost top (drop i l))
+largest-end top m l i h = rw (drop-of-length-le l h) (sym (and-true (leb m top)))
 
 pub legal-head : (top x : ℕ) (l : List ℕ) → allAtMost top (x ∷ l) ≡ true → x ≤ top
 legal-head top x l e = by-cases (leb x top) (leb-true x top) (λ f. absurd (false≢true (rw f at e)))

@@ -13,15 +13,18 @@ pub fn sum(a: u8, b: u8) -> u8
 }
 
 // Whether every element is at most `top`: 1 for bits, 2^m - 1 for labels.
+// No early return: a loop that only keeps the largest is one the machine runs many elements at a time.
 pub fn all_at_most(list: &[u8], top: u8) -> bool
     ensures { λ r. ⌜ r ≡ allAtMost top (now (list .entry)) ⌝ }
 {
+    let mut largest = 0;
     let mut i = 0;
     while i < list.len() {
-        if top < list[i] {
-            return false;
+        let x = list[i];
+        if largest < x {
+            largest = x;
         }
         i += 1;
     }
-    true
+    largest <= top
 }

@@ -1,30 +1,29 @@
--- Every element before i is legal, so the answer is that of the elements from i on.
+-- The list is legal exactly when the largest element before i is legal and so are the elements from i on.
 use mathlib.Core.Path.{_≡_, sym, _∙_}
-use Prim.Native.Nat.{_-_, _≤_}
+use mathlib.Core.Bool.{_&&_}
+use mathlib.Core.Logic.{⊎-elim}
+use Prim.Native.Nat.{zero-le, _-_, _≤_}
 use native.Mathlib.Omega.{arith}
 use borrow.Author.Needs.{needs}
-use lib.ListN.{length, drop, drop-of-length-le}
+use lib.Dec.{leb}
+use lib.ListN.{length, drop}
 use Rattle.bits.specs.Legal.{allAtMost}
-use Rattle.bits.proofs.Legal.{legal-next, illegal-next}
+use Rattle.bits.proofs.Legal.{larger-next, smaller-next, largest-start, largest-end}
 use Rattle.bits.proofs.all_at_most.Statement.{statement}
 use Rattle.bits.proofs.all_at_most.Tie as tie
 
 abbrev Inv-loop : tie.InvT-loop
-Inv-loop list top i₀ i = (i ≤ length list) × (allAtMost top (drop i list) ≡ allAtMost top list)
+Inv-loop list top largest₀ i₀ largest i =
+    (i ≤ length list) × (allAtMost top list ≡ (leb largest top && allAtMost top (drop i list)))
 
 abbrev μ-loop : tie.MeasureT-loop
-μ-loop list top i₀ i = length list - i
+μ-loop list top largest₀ i₀ largest i = length list - i
 
 loop-holds : tie.Need-loop-holds Inv-loop μ-loop
-loop-holds c = search needs
+loop-holds c = (zero-le, largest-start (c .args .top) (c .args .list .now))
 
-shared-slice-read-if1 : tie.Need-shared-slice-read-if1 Inv-loop μ-loop
-shared-slice-read-if1 c = search needs
-
-returns : tie.Need-returns Inv-loop μ-loop
-returns c =
-    let l = c .before .before .before in
-    sym (illegal-next _ _ _ (c .before .before .loop-test .taken) (c .if1 .taken)) ∙ l .loop .inv .1
+shared-slice-read-x : tie.Need-shared-slice-read-x Inv-loop μ-loop
+shared-slice-read-x c = search needs
 
 add-i : tie.Need-add-i Inv-loop μ-loop
 add-i c = search needs
@@ -35,23 +34,20 @@ loop-less c = search needs
 loop-again : tie.Need-loop-again Inv-loop μ-loop
 loop-again c =
     let l = c .before .before .before in
-    (omega arith, sym (legal-next _ _ _ (c .before .before .loop-test .taken) (c .if1 .left)) ∙ l .loop .inv .1)
+    let top = l .before .args .top in
+    let list = l .before .args .list .now in
+    let h = c .before .before .loop-test .taken in
+    ⊎-elim
+    (λ w. (omega arith, rw (w .1) (l .loop .inv .1 ∙ larger-next top (l .loop .largest) list (l .loop .i) h (w .0 .taken))))
+    (λ w. (omega arith, rw (w .1) (l .loop .inv .1 ∙ smaller-next top (l .loop .largest) list (l .loop .i) h (w .0 .left))))
+    (c .if1 .came)
 
-returns-2 : tie.Need-returns-2 Inv-loop μ-loop
-returns-2 c =
+returns : tie.Need-returns Inv-loop μ-loop
+returns c =
     let l = c .before in
-    rw (drop-of-length-le (l .before .args .list .now) (c .loop-test .left)) at (l .loop .inv .1)
+    largest-end (l .before .args .top) (l .loop .largest) (l .before .args .list .now) (l .loop .i) (c .loop-test .left) ∙ sym (l .loop .inv .1)
 
 pub all-at-most-spec : {M : Type 1} → statement M
 all-at-most-spec =
     tie.close
-    (tie.spec
-    Inv-loop
-    μ-loop
-    loop-holds
-    shared-slice-read-if1
-    returns
-    add-i
-    loop-less
-    loop-again
-    returns-2)
+    (tie.spec Inv-loop μ-loop loop-holds shared-slice-read-x add-i loop-less loop-again returns)
