@@ -1,13 +1,13 @@
 -- A loop that fills two registers of one buffer in order, the upper up to S and the lower from S to N, told by what is left to store in each:
 -- the buffer with vs stored from n on and ws from q on is F.
 use mathlib.Core.Path.{_≡_, refl, sym, ap, subst₂, _∙_}
-use mathlib.Core.Bool.{Bool, true, false, false≢true}
+use mathlib.Core.Bool.{Bool, true, false}
 use mathlib.Core.List.{List, [], _∷_, _++_}
 use Prim.Native.Nat.{ℕ, suc, _+_, _≤_, _<_}
 use native.Mathlib.Numerals.{add-one}
 use native.Mathlib.Omega.{arith}
 use lib.ListN.{length, set, length-set}
-use lib.Seq.{sets, set-comm}
+use lib.Seq.{sets, set-comm, set-set}
 use Rattle.bits.proofs.Fill.{sets-append}
 use Rattle.bits.specs.Choice.{if_then_else_}
 
@@ -60,27 +60,44 @@ module _ {room S N : ℕ} {F out : List ℕ} {n q : ℕ} where
     rest = rw (add-one q) (ap (λ (l : List ℕ). sets l (suc q) ws) (sym (set-sets out n vs q y (omega (arith, t .upper, t .apart)))) ∙ t .rest);
   }
 
--- with a bit that is stored only if it is kept
+-- a store at the place of a bit that is left is undone by it
+set-undone : (l : List ℕ) (n x : ℕ) (vs : List ℕ) → 0 < length vs → sets (set l n x) n vs ≡ sets l n vs
+set-undone l n x [] h = absurd (omega arith)
+set-undone l n x (v ∷ vs) h = ap (λ (m : List ℕ). sets m (suc n) vs) (set-set l n x v)
+
+-- every bit is stored, but a register goes on only past one that is kept
 module _ {room S N : ℕ} {F out : List ℕ} {n q : ℕ} where
-  pub two-put-upper : (kept : Bool) (x : ℕ) (vs : List ℕ) {ws : List ℕ} → Two room S N F out n (if kept then x ∷ vs else vs) q ws
-      → Two room S N F (if kept then set out n x else out) (if kept then n + 1 else n) vs q ws
-  two-put-upper true x vs t = two-store-upper t
-  two-put-upper false x vs t = t
+  pub two-put-upper : (kept : Bool) (x : ℕ) (vs : List ℕ) {ws : List ℕ} → 0 < length vs → Two room S N F out n (if kept then x ∷ vs else vs) q ws
+      → Two room S N F (set out n x) (if kept then n + 1 else n) vs q ws
+  two-put-upper true x vs left t = two-store-upper t
+  two-put-upper false x vs {ws} left t = record {
+    same = length-set out n x ∙ t .same;
+    upper = t .upper;
+    lower = t .lower;
+    apart = t .apart;
+    rest = ap (λ (l : List ℕ). sets l q ws) (set-undone out n x vs left) ∙ t .rest;
+  }
 
-  pub two-put-lower : (kept : Bool) (y : ℕ) {vs : List ℕ} (ws : List ℕ) → Two room S N F out n vs q (if kept then y ∷ ws else ws)
-      → Two room S N F (if kept then set out q y else out) n vs (if kept then q + 1 else q) ws
-  two-put-lower true y ws t = two-store-lower t
-  two-put-lower false y ws t = t
+  pub two-put-lower : (kept : Bool) (y : ℕ) {vs : List ℕ} (ws : List ℕ) → 0 < length ws → Two room S N F out n vs q (if kept then y ∷ ws else ws)
+      → Two room S N F (set out q y) n vs (if kept then q + 1 else q) ws
+  two-put-lower true y ws left t = two-store-lower t
+  two-put-lower false y {vs} ws left t = record {
+    same = length-set out q y ∙ t .same;
+    upper = t .upper;
+    lower = t .lower;
+    apart = t .apart;
+    rest =
+        ap (λ (l : List ℕ). sets l q ws) (sym (set-sets out n vs q y (omega (arith, t .upper, t .apart))))
+        ∙ set-undone (sets out n vs) q y ws left ∙ t .rest;
+  }
 
-  pub two-room-upper : (kept : Bool) (x : ℕ) (vs : List ℕ) {ws : List ℕ} → N ≤ room → Two room S N F out n (if kept then x ∷ vs else vs) q ws
-      → kept ≡ true → n < length out
-  two-room-upper true x vs fits t e = omega (arith, t .same, t .upper, t .lower, t .apart)
-  two-room-upper false x vs fits t e = absurd (false≢true e)
+-- a register with a bit left has room for it
+module _ {room S N : ℕ} {F out : List ℕ} {n q : ℕ} {vs ws : List ℕ} where
+  pub two-room-upper : N ≤ room → Two room S N F out n vs q ws → 0 < length vs → n < length out
+  two-room-upper fits t left = omega (arith, t .same, t .upper, t .lower, t .apart)
 
-  pub two-room-lower : (kept : Bool) (y : ℕ) {vs : List ℕ} (ws : List ℕ) → N ≤ room → Two room S N F out n vs q (if kept then y ∷ ws else ws)
-      → kept ≡ true → q < length out
-  two-room-lower true y ws fits t e = omega (arith, t .same, t .lower)
-  two-room-lower false y ws fits t e = absurd (false≢true e)
+  pub two-room-lower : N ≤ room → Two room S N F out n vs q ws → 0 < length ws → q < length out
+  two-room-lower fits t left = omega (arith, t .same, t .lower)
 
 -- at the end two bits are left in each
 module _ {room S N : ℕ} {F out : List ℕ} {n q a b y z : ℕ} where

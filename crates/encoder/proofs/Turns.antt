@@ -1,12 +1,12 @@
 -- The inner encoder's loop: what is left of each register at time i, a turn, and the end.
 use mathlib.Core.Path.{_≡_, refl, sym, ap, _∙_}
-use mathlib.Core.Bool.{Bool, true}
+use mathlib.Core.Bool.{Bool}
 use mathlib.Core.List.{List, [], _∷_, _++_}
 use Prim.Native.Nat.{ℕ, suc, _+_, _-_, _%_, _≤_, _<_}
 use native.Mathlib.Omega.{arith}
 use borrow.Author.Tests.{leb-true, leb-false}
 use lib.Dec.{eqb, leb}
-use lib.ListN.{length, getD, set}
+use lib.ListN.{length, getD, set, length-append}
 use lib.Seq.{sets}
 use Rattle.bits.specs.Choice.{if_then_else_}
 use Rattle.bits.proofs.Cases.{by-cases}
@@ -27,6 +27,15 @@ upperFrom pat π i x bits = keptAt (λ i. eqb (getD pat (π i % period) 0) 1) i 
 
 abbrev pub lowerFrom : ℕ → ℕ → ℕ → State → List ℕ → List ℕ
 lowerFrom I Δ c x bits = countedFrom I Δ c (parities x bits) ++ parities (ends x bits) (termination (ends x bits))
+
+-- the terminating bits are always left
+upper-left : (pat : List ℕ) (π : ℕ → ℕ) (i : ℕ) (x : State) (bits : List ℕ) → 0 < length (upperFrom pat π i x bits)
+upper-left pat π i x bits =
+    omega (arith, length-append (keptAt (λ i. eqb (getD pat (π i % period) 0) 1) i bits) (termination (ends x bits)))
+
+lower-left : (I Δ c : ℕ) (x : State) (bits : List ℕ) → 0 < length (lowerFrom I Δ c x bits)
+lower-left I Δ c x bits =
+    omega (arith, length-append (countedFrom I Δ c (parities x bits)) (parities (ends x bits) (termination (ends x bits))))
 
 pub lower-start : (I Δ : ℕ) (bits : List ℕ) → Δ ≤ I → lower I Δ bits ≡ lowerFrom I Δ (counterStart Δ) zero-state bits
 lower-start I Δ bits d =
@@ -103,22 +112,20 @@ module _ (π : ℕ → ℕ) (work pat out₀ : List ℕ) (I Δ S : ℕ) where
     abbrev L : List ℕ
     L = lowerFrom I Δ (counted I Δ c .counter) (x .1, y) (reads π work I (i + 1))
 
-    pub upper-room : keeps ≡ true → n < length out
-    upper-room = two-room-upper keeps u U fits (two-as (upper-turn π work I i x h at bit goes pat) refl going)
+    pub upper-room : n < length out
+    upper-room = two-room-upper fits going (upper-left pat π i x (reads π work I i))
 
-    module _ {out₁ : List ℕ} {n₁ : ℕ} (moved : n₁ ≡ (if keeps then n + 1 else n)) (stored : out₁ ≡ (if keeps then set out n u else out)) where
+    module _ {out₁ : List ℕ} {n₁ : ℕ} (moved : n₁ ≡ (if keeps then n + 1 else n)) (stored : out₁ ≡ set out n u) where
       ready : Two (length out₀) S (S + length (lower I Δ (readFrom π work 0 I)))
-          (sets out₀ 0 (upperFrom pat π 0 zero-state (readFrom π work 0 I) ++ lower I Δ (readFrom π work 0 I))) out₁ n₁ U q (if counted I Δ c .kept then p ∷ L else L)
-      ready =
-          rw (moved, stored)
-          (two-put-upper keeps u U (two-as (upper-turn π work I i x h at bit goes pat) (lower-turn π work I i x h at bit goes Δ c par) going))
+          (sets out₀ 0 (upperFrom pat π 0 zero-state (readFrom π work 0 I) ++ lower I Δ (readFrom π work 0 I))) out₁ n₁ U q (lowerFrom I Δ c x (reads π work I i))
+      ready = rw (moved, stored) (two-put-upper keeps u U (upper-left pat π (i + 1) (x .1, y) (reads π work I (i + 1))) (two-as (upper-turn π work I i x h at bit goes pat) refl going))
 
-      pub lower-room : counted I Δ c .kept ≡ true → q < length out₁
-      lower-room = two-room-lower (counted I Δ c .kept) p L fits ready
+      pub lower-room : q < length out₁
+      lower-room = two-room-lower fits ready (lower-left I Δ c x (reads π work I i))
 
-      pub going-turn : {out₂ : List ℕ} {q₂ : ℕ} → q₂ ≡ (if counted I Δ c .kept then q + 1 else q) → out₂ ≡ (if counted I Δ c .kept then set out₁ q p else out₁)
+      pub going-turn : {out₂ : List ℕ} {q₂ : ℕ} → q₂ ≡ (if counted I Δ c .kept then q + 1 else q) → out₂ ≡ set out₁ q p
           → Going out₂ (x .1, y) n₁ q₂ (counted I Δ c .counter) (i + 1)
-      going-turn e d = rw (e, d) (two-put-lower (counted I Δ c .kept) p L ready)
+      going-turn e d = rw (e, d) (two-put-lower (counted I Δ c .kept) p L (lower-left I Δ (counted I Δ c .counter) (x .1, y) (reads π work I (i + 1))) (two-as refl (lower-turn π work I i x h at bit goes Δ c par) ready))
 
   -- the end: the terminating bits are left
   module _ (out : List ℕ) (x : State) (n q c i : ℕ) {t : Termination} (h : I ≤ i) (is : t ≡ terminationOf x) (going : Going out x n q c i) where

@@ -62,14 +62,15 @@ fn write(f: Format, alpha: &[u16], beta: &[u8], pattern: &[u8], work: &[u8], out
     out[lower + 1] = t.p1;
 }
 
-// Stores a bit that is kept; answers where the register goes on.
+// Stores a bit; answers where the register goes on. A bit that is not kept is stored too, since another will take its place:
+// which bits are kept is too irregular for a branch to be foreseen, and the terminating bits always follow.
 fn put(kept: bool, bit: u8, out: &mut [u8], at: usize) -> usize
-    requires { ⌜ (kept ≡ true → at < length (now out)) ⌝ }
+    requires { ⌜ at < length (now out) ⌝ }
     ensures { λ r. ⌜ r ≡ (if kept then at + 1 else at) ⌝ }
-    ensures { λ _. ⌜ now (out .exit) ≡ (if kept then set (now (out .entry)) at bit else now (out .entry)) ⌝ }
+    ensures { λ _. ⌜ now (out .exit) ≡ set (now (out .entry)) at bit ⌝ }
 {
+    out[at] = bit;
     if kept {
-        out[at] = bit;
         return at + 1;
     }
     at

@@ -1,5 +1,5 @@
 -- The record that was found, field by field; a number that is no format's has no record and no stand-in rows.
-use mathlib.Core.Path.{_≡_, sym, ap, _∙_}
+use mathlib.Core.Path.{sym, ap, _∙_}
 use borrow.Author.Needs.{needs}
 use Rattle.acm.specs.Formats.{Answer, answerOf}
 use Rattle.acm.proofs.Laws.{not-found}

@@ -1,5 +1,5 @@
 -- At time i, what is left to store are the registers of the bits that are yet to be read, from the present state and counter.
-use mathlib.Core.Path.{refl, sym, ap, _∙_}
+use mathlib.Core.Path.{refl, ap, _∙_}
 use mathlib.Core.List.{List, _++_}
 use Prim.Native.Nat.{ℕ, _+_, _-_, _≤_, _<_}
 use native.Mathlib.Omega.{arith}
@@ -9,7 +9,6 @@ use lib.Seq.{sets}
 use Rattle.acm.specs.Formats.{M}
 use Rattle.trellis.specs.Trellis.{zero-state}
 use Rattle.puncture.specs.Puncture.{pattern}
-use Rattle.puncture.specs.declared.steps.Matching.{Matching}
 use Rattle.puncture.proofs.Zeroed.{pattern-length}
 use Rattle.interleaver.specs.Interleaver.{permuted}
 use Rattle.encoder.specs.Codeword.{readFrom, lower}
@@ -84,9 +83,8 @@ put-requires-2 c κs =
     let l = c .before .before .before .before .before .before .before .before .before .before .before .before in
     let a = l .before .before .before .before .before .before .args in
     let at = c .before .before .before .before .before .before .before .before .before .number .ensures ∙ c .before .before .before .before .before .before .before .before .before .before .interleaved .ensures .0 in
-    let kept = ap (λ (m : Matching). m .kept) (c .before .before .rate-match .ensures) in
-    λ t. lower-room _ _ (a .pattern .now) (a .out .now) _ _ _ (l .loop .out) (l .loop .x0, l .loop .x1) _ _ _ (l .loop .i) (c .before .before .before .before .before .before .before .before .before .before .before .loop-test .taken) at refl refl refl (l .loop .inv .2) (fits l)
-    (c .before .before .before .before .before .put .ensures .0) (c .before .before .before .before .before .put .ensures .1) (sym kept ∙ t)
+    lower-room _ _ (a .pattern .now) (a .out .now) _ _ _ (l .loop .out) (l .loop .x0, l .loop .x1) _ _ _ (l .loop .i) (c .before .before .before .before .before .before .before .before .before .before .before .loop-test .taken) at refl refl refl (l .loop .inv .2) (fits l)
+    (c .before .before .before .before .before .put .ensures .0) (c .before .before .before .before .before .put .ensures .1)
 
 next-requires : tie.Need-next-requires Inv-loop μ-loop
 next-requires c κs = search needs
@@ -106,7 +104,7 @@ loop-again c =
       omega (arith, c .before .before .before .before .before .before .before .before .before .before .before .before .before .before .before .loop-test .taken),
       rw m (counter-low (s .args .f .i) (s .args .f .delta) (l .loop .counter) (omega (arith, s .pre .deletes)) (l .loop .inv .1)),
       rw m (going-turn _ _ (s .args .pattern .now) (s .args .out .now) _ _ _ (l .loop .out) (l .loop .x0, l .loop .x1) _ _ _ (l .loop .i) (c .before .before .before .before .before .before .before .before .before .before .before .before .before .before .before .loop-test .taken) at refl (c .next .ensures) (c .before .before .before .before .before .parity .ensures) (l .loop .inv .2) (fits l)
-          (c .before .before .before .before .before .before .before .before .before .put .ensures .0) (c .before .before .before .before .before .before .before .before .before .put .ensures .1) (rw m at (c .before .before .before .put2 .ensures .0)) (rw m at (c .before .before .before .put2 .ensures .1))),
+          (c .before .before .before .before .before .before .before .before .before .put .ensures .0) (c .before .before .before .before .before .before .before .before .before .put .ensures .1) (rw m at (c .before .before .before .put2 .ensures .0)) (c .before .before .before .put2 .ensures .1)),
     )
 
 terminate-requires : tie.Need-terminate-requires Inv-loop μ-loop
