@@ -24,6 +24,8 @@ test: oracle lib
 	tests/examples/run
 	$(cargo) tests/random/Cargo.toml
 	tests/random/target/release/random --seconds $(random_seconds)
+	rt check bench
+	tests/bench-lines
 	rt ci
 
 lib:

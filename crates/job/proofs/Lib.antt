@@ -1,0 +1,9 @@
+pub mod Checked
+pub mod Decimal
+pub mod Fields
+pub mod Lines
+pub mod Outputs
+pub mod Readings
+pub mod Rows
+pub mod Scans
+pub mod Stores
