@@ -26,6 +26,27 @@ pub pattern-length : (S : ℕ) → length (pattern S) ≡ period
 unfolding pattern
 pattern-length S = zeroed-length (replicate period 1) (take (period - S) positions) ∙ length-replicate {A = ℕ} period 1
 
+-- each of its elements is 0 or 1
+ones-low : (n k : ℕ) → getD (replicate n 1) k 0 ≤ 1
+ones-low zero k = omega arith
+ones-low (suc n) zero = omega arith
+ones-low (suc n) (suc k) = ones-low n k
+
+set-low : (l : List ℕ) (p : ℕ) → ((k : ℕ) → getD l k 0 ≤ 1) → (k : ℕ) → getD (set l p 0) k 0 ≤ 1
+set-low [] p low k = low k
+set-low (x ∷ l) zero low zero = omega arith
+set-low (x ∷ l) zero low (suc k) = low (suc k)
+set-low (x ∷ l) (suc p) low zero = low zero
+set-low (x ∷ l) (suc p) low (suc k) = set-low l p (λ j. low (suc j)) k
+
+zeroed-low : (out ps : List ℕ) → ((k : ℕ) → getD out k 0 ≤ 1) → (k : ℕ) → getD (zeroed out ps) k 0 ≤ 1
+zeroed-low out [] low k = low k
+zeroed-low out (p ∷ ps) low k = zeroed-low (set out p 0) ps (set-low out p low) k
+
+pub pattern-low : (S k : ℕ) → getD (pattern S) k 0 ≤ 1
+unfolding pattern
+pattern-low S k = zeroed-low (replicate period 1) (take (period - S) positions) (ones-low period) k
+
 -- the sum of a list, which of bits is the number of ones
 abbrev pub total : List ℕ → ℕ
 total [] = 0
