@@ -12,7 +12,7 @@ use Rattle.bits.proofs.Cases.{by-cases}
 use Rattle.bits.proofs.Table.{left-true, right-true, every, every-at, below, below-at}
 use Rattle.acm.specs.declared.table.Format.{Format}
 use Rattle.acm.specs.declared.Found.the-variants.{Record, NoFormat}
-use Rattle.acm.specs.Formats.{M, symbols, formats, formatOf, none, isFormat, Answer, answerOf, lookedUp}
+use Rattle.acm.specs.Formats.{M, symbols, formats, formatOf, none, lastFormat, isFormat, mostK, mostI, mostN, Answer, answerOf, lookedUp}
 
 pub record Sound (r : Format) : Type 0 where
   pub outer : 2 * r .i ≡ 3 * (r .k + 2)
@@ -48,24 +48,24 @@ tests r =
 abbrev sound : Format → Bool
 sound r = every (λ i t. t) 0 (tests r)
 
-tested : below (λ g. sound (formatOf (suc g))) 27 ≡ true
+tested : below (λ g. sound (formatOf (suc g))) lastFormat ≡ true
 unfolding formatOf formats
 tested = refl
 
 -- formats are the numbers 1 to 27
 pub format-low : (f : ℕ) → isFormat f ≡ true → 1 ≤ f
-format-low f h = leb-true 1 f (left-true (leb 1 f) (leb f 27) h)
+format-low f h = leb-true 1 f (left-true (leb 1 f) (leb f lastFormat) h)
 
-pub format-high : (f : ℕ) → isFormat f ≡ true → f ≤ 27
-format-high f h = leb-true f 27 (right-true (leb 1 f) (leb f 27) h)
+pub format-high : (f : ℕ) → isFormat f ≡ true → f ≤ lastFormat
+format-high f h = leb-true f lastFormat (right-true (leb 1 f) (leb f lastFormat) h)
 
--- a test that holds of the records 1 to 27 holds of every format's
-pub format-test : (test : Format → Bool) → below (λ g. test (formatOf (suc g))) 27 ≡ true → (f : ℕ) → isFormat f ≡ true → test (formatOf f) ≡ true
+-- a test that holds of the records of all formats holds of every format's
+pub format-test : (test : Format → Bool) → below (λ g. test (formatOf (suc g))) lastFormat ≡ true → (f : ℕ) → isFormat f ≡ true → test (formatOf f) ≡ true
 format-test test all f h =
     let low = format-low f h in
     let high = format-high f h in
     let e : suc (f - 1) ≡ f = omega arith in
-    subst (λ (g : ℕ). test (formatOf g) ≡ true) e (below-at (λ g. test (formatOf (suc g))) 27 all (f - 1) (omega arith))
+    subst (λ (g : ℕ). test (formatOf g) ≡ true) e (below-at (λ g. test (formatOf (suc g))) lastFormat all (f - 1) (omega arith))
 
 -- record g of the table is that of format g + 1
 pub record-at : (f : ℕ) → 1 ≤ f → getD formats (f - 1) none ≡ formatOf f
@@ -94,6 +94,23 @@ module _ (f : ℕ) (h : isFormat f ≡ true) where
         least-m = leb-true _ _ (part 10 (lit< tt));
         most-m = leb-true _ _ (part 11 (lit< tt));
       }
+
+-- memory of the largest K, I and N is enough for every format
+pub record Within (r : Format) : Type 0 where
+  pub some : 0 < r .k
+  pub most-k : r .k ≤ mostK
+  pub most-i : r .i ≤ mostI
+  pub most-n : r .n ≤ mostN
+
+pub within : (f : ℕ) → isFormat f ≡ true → Within (formatOf f)
+within f h =
+    let s = format-sound f h in
+    record {
+      some = omega (arith, s .outer, s .banks, s .some);
+      most-k = omega (arith, s .outer, s .banks, s .widest);
+      most-i = omega (arith, s .banks, s .widest);
+      most-n = omega (arith, s .labels, s .most-m);
+    }
 
 -- what the two answers of a lookup say
 pub found : (f : ℕ) (r : Format) → answerOf (Record r) ≡ lookedUp f → (isFormat f ≡ true) × (r ≡ formatOf f)

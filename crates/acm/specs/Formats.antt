@@ -55,12 +55,26 @@ formats =
     row 6 43678 65520 546 48600 208 45429 62351 ∷
     []
 
+-- the number of the last format
+abbrev pub lastFormat : ℕ
+lastFormat = 27
+
 abbrev pub isFormat : ℕ → Bool
-isFormat f = leb 1 f && leb f 27
+isFormat f = leb 1 f && leb f lastFormat
 
 -- the record of format f, and one of zeros where there is no such format
 unfoldable pub formatOf : ℕ → Format
 formatOf f = getD (none ∷ formats) f none
+
+-- the largest K, I and N
+abbrev pub mostK : ℕ
+mostK = 43678
+
+abbrev pub mostI : ℕ
+mostI = 65520
+
+abbrev pub mostN : ℕ
+mostN = 48600
 
 -- the largest label of format f: m bits, all 1
 abbrev pub topLabel : ℕ → ℕ

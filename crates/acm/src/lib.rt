@@ -13,6 +13,13 @@ pub const LAST: u64 = 27;
 // Labels of a codeword (4.1).
 pub const SYMBOLS: usize = 8100;
 
+// The largest K, I and N: memory of so many bytes holds the block, the workspace and the codeword of any format.
+pub const MOST_K: usize = 43678;
+
+pub const MOST_I: usize = 65520;
+
+pub const MOST_N: usize = 48600;
+
 // The answer of a lookup.
 pub enum Found {
     Record(Format),

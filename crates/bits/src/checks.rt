@@ -1,6 +1,8 @@
 // The number of each check of document 01 ("Questions at the door"), in the order in which checks are made.
 // specs/Checks.antt has the same numbers for the contracts.
 
+// No check failed.
+pub const PASSED: u8 = 0;
 // The ACM format is 1 to 27.
 pub const FORMAT: u8 = 1;
 // Each input list is as long as the call takes.

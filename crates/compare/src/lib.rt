@@ -19,9 +19,9 @@ pub enum Comparison {
 pub fn compare(format: u64, a: &[u8], b: &[u8]) -> Comparison
     ensures { λ r. ⌜ answerOf r ≡ compared format (now (a .entry)) (now (b .entry)) ⌝ }
 {
-    let refused = check_compare(format, a, b);
-    if refused != 0 {
-        return Comparison::Refused(refused);
+    let number = check_compare(format, a, b);
+    if number != checks::PASSED {
+        return Comparison::Refused(number);
     }
     let count = count_differing(a, b);
     if count == 0 {
@@ -51,7 +51,7 @@ fn check_compare(format: u64, a: &[u8], b: &[u8]) -> u8
     if !bits::all_at_most(b, top) {
         return checks::ELEMENT;
     }
-    0
+    checks::PASSED
 }
 
 // The number of places at which two lists differ.

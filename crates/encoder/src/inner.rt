@@ -12,9 +12,7 @@ ghost use Rattle.encoder.specs.Codeword.{fromOuter};
 ghost use Rattle.encoder.specs.Inner.{Lent, written};
 use acm::Format;
 use interleaver::UpperPosition;
-
-// The length of the puncturing pattern.
-const PERIOD: usize = 300;
+use puncture::PERIOD;
 
 // The codeword of the outer kept bits at the front of work, to the front of out.
 pub(crate) fn encode(format: u64, work: &[u8], out: &mut [u8])

@@ -16,13 +16,13 @@ pub fn encode(format: u64, block: &[u8], work: &mut [u8], out: &mut [u8]) -> u8
     ensures workspace { λ _. ⌜ now (work .exit) ≡ encodeWorkspace format (now (block .entry)) (now (work .entry)) (now (out .entry)) ⌝ }
     ensures output { λ _. ⌜ now (out .exit) ≡ encodeOutput format (now (block .entry)) (now (work .entry)) (now (out .entry)) ⌝ }
 {
-    let refused = check_encode(format, block, work.len(), out.len());
-    if refused != 0 {
-        return refused;
+    let number = check_encode(format, block, work.len(), out.len());
+    if number != checks::PASSED {
+        return number;
     }
     trellis::steps::outer(block, work);
     inner::encode(format, work, out);
-    0
+    checks::PASSED
 }
 
 // The number of the first check of encode that fails, 0 if none does.
@@ -44,7 +44,7 @@ fn check_encode(format: u64, block: &[u8], work: usize, out: usize) -> u8
     if out < f.n {
         return checks::OUTPUT;
     }
-    0
+    checks::PASSED
 }
 
 // The labels of a codeword: 8,100 numbers of m bits.
@@ -55,12 +55,12 @@ pub fn labels(format: u64, codeword: &[u8], out: &mut [u8]) -> u8
     ensures output { λ _. ⌜ now (out .exit) ≡ labelsOutput format (now (codeword .entry)) (now (out .entry)) ⌝ }
 {
     let number = check_labels(format, codeword, out.len());
-    if number != 0 {
+    if number != checks::PASSED {
         return number;
     }
     let f = acm::steps::parameters(format);
     columns::write(f.m, codeword, out);
-    0
+    checks::PASSED
 }
 
 // The number of the first check of labels that fails, 0 if none does.
@@ -79,5 +79,5 @@ fn check_labels(format: u64, codeword: &[u8], room: usize) -> u8
     if room < acm::SYMBOLS {
         return checks::OUTPUT;
     }
-    0
+    checks::PASSED
 }

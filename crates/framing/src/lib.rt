@@ -16,9 +16,10 @@ mod header;
 // Codeword sections of a frame.
 const SECTIONS: usize = 16;
 
-const FRAME_LABELS: usize = SECTIONS * SYMBOLS;
+// Labels and slots of a frame.
+pub const FRAME_LABELS: usize = SECTIONS * SYMBOLS;
 
-const FRAME_LENGTH: usize = header::LENGTH + FRAME_LABELS;
+pub const FRAME_LENGTH: usize = header::LENGTH + FRAME_LABELS;
 
 // The frame of sixteen codewords' labels, without pilots: marker and descriptor bits as 256 for 0 and 257 for 1, then the labels.
 // Checks: 1; 2, there are 129,600 labels; 3, each is below 2^m; 5, the output has at least 129,920 slots.
@@ -27,12 +28,12 @@ pub fn frame(format: u64, labels: &[u8], out: &mut [u16]) -> u8
     ensures number { λ r. ⌜ r ≡ frameNumber format (now (labels .entry)) (length (now (out .entry))) ⌝ }
     ensures output { λ _. ⌜ now (out .exit) ≡ frameOutput format (now (labels .entry)) (now (out .entry)) ⌝ }
 {
-    let refused = check_frame(format, labels, out.len());
-    if refused != 0 {
-        return refused;
+    let number = check_frame(format, labels, out.len());
+    if number != checks::PASSED {
+        return number;
     }
     put_frame(format, labels, out);
-    0
+    checks::PASSED
 }
 
 // The number of the first check of frame that fails, 0 if none does.
@@ -51,7 +52,7 @@ fn check_frame(format: u64, labels: &[u8], room: usize) -> u8
     if room < FRAME_LENGTH {
         return checks::OUTPUT;
     }
-    0
+    checks::PASSED
 }
 
 // The header and the labels, to the front of out.
@@ -80,7 +81,7 @@ fn put_labels(labels: &[u8], out: &mut [u16], at: usize)
 pub fn section(labels: &[u8], place: u64) -> &[u8]
     ensures { λ r. ⌜ now r ≡ sectionLabels (now (labels .entry)) place ⌝ }
 {
-    if section_number(labels, place) != 0 {
+    if section_number(labels, place) != checks::PASSED {
         return &labels[..0];
     }
     let from = place as usize * SYMBOLS;
@@ -99,5 +100,5 @@ pub fn section_number(labels: &[u8], place: u64) -> u8
     if SECTIONS as u64 <= place {
         return checks::PLACE;
     }
-    0
+    checks::PASSED
 }

@@ -9,7 +9,7 @@ use lib.Dec.{eqb}
 use lib.ListN.{length, getD}
 use Rattle.bits.specs.Permutation.{Permutes}
 use Rattle.bits.proofs.Table.{every, below}
-use Rattle.acm.specs.Formats.{formats, formatOf, isFormat}
+use Rattle.acm.specs.Formats.{formats, formatOf, lastFormat, isFormat}
 use Rattle.acm.specs.declared.table.Format.{Format}
 use Rattle.acm.proofs.Laws.{format-sound, format-test}
 use Rattle.puncture.specs.Puncture.{period, pattern, survives, punctured, rateMatched}
@@ -25,7 +25,7 @@ ones pat n = places (λ i. eqb (getD pat (i % period) 0) 1) n
 abbrev keeps-S : Format → List ℕ → Bool
 keeps-S r pat = eqb (ones pat (r .i % period) + r .i / period * ones pat period + 2) (r .s)
 
-tested : below (λ g. keeps-S (formatOf (suc g)) (pattern (formatOf (suc g) .survivors))) 27 ≡ true
+tested : below (λ g. keeps-S (formatOf (suc g)) (pattern (formatOf (suc g) .survivors))) lastFormat ≡ true
 unfolding formatOf formats pattern positions
 tested = refl
 

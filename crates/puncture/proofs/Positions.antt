@@ -10,37 +10,37 @@ use lib.ListN.{length, getD, take}
 use lib.Seq.{length-take-le, getD-take, take-all}
 use Rattle.bits.proofs.Cases.{by-cases}
 use Rattle.bits.proofs.Table.{every, every-at}
-use Rattle.puncture.specs.Puncture.{period}
+use Rattle.puncture.specs.Puncture.{period, mostPunctured}
 use Rattle.puncture.specs.Table42.{positions, rates}
 
 low : every (λ i p. ltb p period) 0 positions ≡ true
 unfolding positions
 low = refl
 
-pub positions-length : length positions ≡ 100
+pub positions-length : length positions ≡ mostPunctured
 unfolding positions
 positions-length = refl
 
-pub position-low : (k : ℕ) → k < 100 → getD positions k 0 < period
+pub position-low : (k : ℕ) → k < mostPunctured → getD positions k 0 < period
 position-low k h = ltb-true _ _ (every-at (λ i p. ltb p period) positions 0 low k (omega (arith, positions-length)))
 
 -- the first n of them
-pub front-length : (n : ℕ) → n ≤ 100 → length (take n positions) ≡ n
+pub front-length : (n : ℕ) → n ≤ mostPunctured → length (take n positions) ≡ n
 front-length n h = length-take-le n positions (omega (arith, positions-length))
 
-pub front-low : (n : ℕ) → n ≤ 100 → (k : ℕ) → k < length (take n positions) → getD (take n positions) k 0 < period
+pub front-low : (n : ℕ) → n ≤ mostPunctured → (k : ℕ) → k < length (take n positions) → getD (take n positions) k 0 < period
 front-low n h k inside =
     let k-low : k < n = omega (arith, front-length n h) in
     rw (getD-take n positions k 0 k-low) (position-low k (omega arith))
 
-pub front-most : (n : ℕ) → take (min n 100) positions ≡ take n positions
+pub front-most : (n : ℕ) → take (min n mostPunctured) positions ≡ take n positions
 front-most n =
-    by-cases (leb n 100)
-    (λ t. let e : min n 100 ≡ n = omega (arith, leb-true n 100 t) in ap (λ (k : ℕ). take k positions) e)
-    (λ f. let e : min n 100 ≡ 100 = omega (arith, leb-false n 100 f) in
+    by-cases (leb n mostPunctured)
+    (λ t. let e : min n mostPunctured ≡ n = omega (arith, leb-true n mostPunctured t) in ap (λ (k : ℕ). take k positions) e)
+    (λ f. let e : min n mostPunctured ≡ mostPunctured = omega (arith, leb-false n mostPunctured f) in
     ap (λ (k : ℕ). take k positions) e
-    ∙ take-all 100 positions (omega (arith, positions-length))
-    ∙ sym (take-all n positions (omega (arith, positions-length, leb-false n 100 f))))
+    ∙ take-all mostPunctured positions (omega (arith, positions-length))
+    ∙ sym (take-all n positions (omega (arith, positions-length, leb-false n mostPunctured f))))
 
 -- no entry of a list is one of those behind it
 abbrev pub absent : ℕ → List ℕ → Bool
@@ -54,19 +54,22 @@ pub positions-distinct : distinct positions ≡ true
 unfolding positions
 positions-distinct = refl
 
--- the rate 200 / S in ten-thousandths, a half rounded up
+-- the rate in ten-thousandths, a half rounded up: of the period's 300 bits 200 are information, whatever S survive
+abbrev information : ℕ
+information = 200
+
 abbrev pub rateOf : ℕ → ℕ
-rateOf S = (2 * (200 * 10000) + S) / (2 * S)
+rateOf S = (2 * (information * 10000) + S) / (2 * S)
 
 rates-right : every (λ i r. eqb r (rateOf (period - suc i))) 0 rates ≡ true
 unfolding rates
 rates-right = refl
 
-rates-length : length rates ≡ 100
+rates-length : length rates ≡ mostPunctured
 unfolding rates
 rates-length = refl
 
 -- index k + 1 of the table, for which S is 300 - (k + 1)
-pub rate-right : (k : ℕ) → k < 100 → getD rates k 0 ≡ rateOf (period - suc k)
+pub rate-right : (k : ℕ) → k < mostPunctured → getD rates k 0 ≡ rateOf (period - suc k)
 rate-right k h =
     eqb-true _ _ (every-at (λ i r. eqb r (rateOf (period - suc i))) rates 0 rates-right k (omega (arith, rates-length)))

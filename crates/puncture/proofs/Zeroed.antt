@@ -10,7 +10,7 @@ use lib.ListN.{length, getD, drop, take, set, replicate, length-set, length-repl
 use lib.Seq.{getD-set-other, getD-take, length-take-le}
 use Rattle.bits.proofs.Lists.{drop-next}
 use Rattle.bits.proofs.Table.{every, every-at, left-true, right-true}
-use Rattle.puncture.specs.Puncture.{period, zeroed, pattern}
+use Rattle.puncture.specs.Puncture.{period, mostPunctured, zeroed, pattern}
 use Rattle.puncture.specs.Table42.{positions}
 use Rattle.puncture.proofs.Positions.{absent, distinct, positions-length, position-low, positions-distinct}
 
@@ -85,7 +85,7 @@ distinct-take (suc n) [] e = refl
 distinct-take (suc n) (x ∷ l) e =
     rw (absent-take x n 0 l (left-true (absent x l) (distinct l) e)) (distinct-take n l (right-true (absent x l) (distinct l) e))
 
-pub pattern-ones : (S : ℕ) → 200 ≤ S → S ≤ period → total (pattern S) ≡ S
+pub pattern-ones : (S : ℕ) → period - mostPunctured ≤ S → S ≤ period → total (pattern S) ≡ S
 unfolding pattern
 pattern-ones S low high =
     let ps = take (period - S) positions in

@@ -12,6 +12,10 @@ use Rattle.puncture.specs.declared.steps.Matching.{Matching}
 abbrev pub period : ℕ
 period = 300
 
+-- how many positions table 4-2 has: the most that a pattern punctures
+abbrev pub mostPunctured : ℕ
+mostPunctured = 100
+
 -- 4.4.2 a): the pattern for S_sur surviving bits has 0s at the first 300 - S_sur positions of table 4-2 and 1s elsewhere
 abbrev pub zeroed : List ℕ → List ℕ → List ℕ
 zeroed pattern [] = pattern

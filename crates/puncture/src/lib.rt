@@ -2,16 +2,22 @@
 ghost use mathlib.Core.Path.{_≡_};
 ghost use Prim.Native.Nat.{ℕ, _-_, _<_, min};
 ghost use lib.ListN.{length, getD};
-ghost use Rattle.puncture.specs.Puncture.{period, pattern as patternOf, zeroed};
+ghost use Rattle.puncture.specs.Puncture.{period, mostPunctured, pattern as patternOf, zeroed};
 
 pub mod steps;
 mod table;
 
+// The length of the puncturing pattern.
+pub const PERIOD: usize = 300;
+
+// Positions of table 4-2: the most that a pattern punctures.
+const MOST_PUNCTURED: usize = 100;
+
 // The pattern of 300 for a survivor number: 0 where the upper register is punctured, 1 elsewhere.
-pub fn pattern(survivors: usize) -> [u8; 300]
+pub fn pattern(survivors: usize) -> [u8; PERIOD]
     ensures { λ r. ⌜ r ≡ patternOf survivors ⌝ }
 {
-    let mut out = [1u8; 300];
+    let mut out = [1u8; PERIOD];
     let count = zeros(survivors);
     zero_at(&table::POSITIONS[..count], &mut out);
     out
@@ -19,15 +25,15 @@ pub fn pattern(survivors: usize) -> [u8; 300]
 
 // How many of the positions of table 4-2 are punctured.
 fn zeros(survivors: usize) -> usize
-    ensures { λ r. ⌜ r ≡ min (period - survivors) 100 ⌝ }
+    ensures { λ r. ⌜ r ≡ min (period - survivors) mostPunctured ⌝ }
 {
-    if 300 <= survivors {
+    if PERIOD <= survivors {
         return 0;
     }
-    if survivors <= 200 {
-        return 100;
+    if survivors <= PERIOD - MOST_PUNCTURED {
+        return MOST_PUNCTURED;
     }
-    300 - survivors
+    PERIOD - survivors
 }
 
 // Writes 0 at each of the positions.

@@ -1,5 +1,5 @@
 // The puncturing positions of table 4-2, as Corrigendum 1 prints it.
-pub const POSITIONS: [usize; 100] = [
+pub const POSITIONS: [usize; crate::MOST_PUNCTURED] = [
     76,
     1,
     145,

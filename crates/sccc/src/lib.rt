@@ -16,6 +16,9 @@ use bits::checks;
 use interleaver::Source;
 use interleaver::UpperPosition;
 
+// The number in the answer of a call that fails no check.
+const PASSED: u64 = checks::PASSED as u64;
+
 // An ACM format's m, K, I, W and N, and 1 where its interleaver has rows that stand in for published ones, else 0.
 #[repr(C)]
 pub struct FormatInfo {
@@ -47,7 +50,7 @@ pub extern "C" fn sccc_format(format: u64) -> FormatInfo
         };
     };
     FormatInfo {
-        number: 0,
+        number: PASSED,
         m: f.m as u64,
         k: f.k as u64,
         i: f.i as u64,
@@ -120,7 +123,7 @@ pub extern "C" fn sccc_interleave(format: u64, position: u64) -> Interleaved
     let answer = interleaver::interleave(format, UpperPosition(position as usize));
     match answer {
         interleaver::Interleaved::At(p) => Interleaved {
-            number: 0,
+            number: PASSED,
             position: p.number() as u64,
         },
         interleaver::Interleaved::NoFormat => Interleaved::refused(checks::FORMAT),
@@ -190,13 +193,13 @@ pub extern "C" fn sccc_section(labels: &[u8], place: u64) -> SectionRange
     ensures { λ r. ⌜ r ≡ rangeStruct (now (labels .entry)) place ⌝ }
 {
     let number = framing::section_number(labels, place);
-    if number != 0 {
+    if number != checks::PASSED {
         return SectionRange::refused(number);
     }
     let length = acm::SYMBOLS as u64;
     let start = place * length;
     SectionRange {
-        number: 0,
+        number: PASSED,
         start,
         length,
     }
@@ -233,13 +236,13 @@ pub extern "C" fn sccc_compare(format: u64, a: &[u8], b: &[u8]) -> Comparison
     let answer = compare::compare(format, a, b);
     match answer {
         compare::Comparison::Same => Comparison {
-            number: 0,
+            number: PASSED,
             same: 1,
             count: 0,
             first: 0,
         },
         compare::Comparison::Differ { count, first } => Comparison {
-            number: 0,
+            number: PASSED,
             same: 0,
             count: count as u64,
             first: first as u64,

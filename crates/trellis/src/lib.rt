@@ -27,7 +27,7 @@ pub fn step(state: u64, bit: u64) -> Stepped
     let x1 = (state % 2) as u8;
     let u = bit as u8;
     Stepped {
-        number: 0,
+        number: bits::checks::PASSED,
         systematic: u,
         parity: steps::parity(x1, u),
         state: 2 * x1 + steps::next(x0, x1, u),

@@ -8,7 +8,7 @@ use borrow.Author.Tests.{leb-false, eqb-true, le-leb}
 use lib.Dec.{eqb}
 use lib.ListN.{List·getD-eq-default}
 use Rattle.bits.proofs.Table.{below-at}
-use Rattle.acm.specs.Formats.{answerOf, formatOf, formats, isFormat, none}
+use Rattle.acm.specs.Formats.{answerOf, formatOf, formats, isFormat, lastFormat, none}
 use Rattle.acm.specs.declared.table.Format.{Format}
 use Rattle.acm.proofs.Laws.{Sound, format-sound, found, not-found}
 use Rattle.acm.proofs.top_label.Statement.{statement}
@@ -19,7 +19,7 @@ no-record : (f : ℕ) → isFormat f ≡ false → formatOf f ≡ none
 unfolding formatOf formats
 no-record zero h = refl
 no-record (suc f) h =
-    let high = leb-false (suc f) 27 (rw (le-leb 1 (suc f) (omega arith)) at h) in
+    let high = leb-false (suc f) lastFormat (rw (le-leb 1 (suc f) (omega arith)) at h) in
     List·getD-eq-default formats none {n = f} (omega arith)
 
 ones : (m : ℕ) → m ≤ 8 → 255 / 2 ^ (8 - m) ≡ 2 ^ m - 1

@@ -1,14 +1,15 @@
 -- The loop ends past the last format.
-use Prim.Native.Nat.{_-_, _≤_}
+use Prim.Native.Nat.{suc, _-_, _≤_}
 use borrow.Author.Needs.{needs}
+use Rattle.acm.specs.Formats.{lastFormat}
 use Rattle.formats.proofs.main.Statement.{statement}
 use Rattle.formats.proofs.main.Tie as tie
 
 abbrev Inv-loop : tie.InvT-loop
-Inv-loop format₀ format = format ≤ 28
+Inv-loop format₀ format = format ≤ suc lastFormat
 
 abbrev μ-loop : tie.MeasureT-loop
-μ-loop format₀ format = 28 - format
+μ-loop format₀ format = suc lastFormat - format
 
 slice-aggregate-write-all : tie.Need-slice-aggregate-write-all Inv-loop μ-loop
 slice-aggregate-write-all c = search needs
