@@ -8,40 +8,37 @@ use borrow.Author.Tests.{eqb-true, eq-eqb, ne-eqb}
 use lib.Dec.{eqb}
 use lib.ListN.{length, getD, take, drop, length-append}
 use lib.Seq.{take-at, drop-append-add}
+use Rattle.bits.specs.Place.{place}
 use Rattle.bits.proofs.Cases.{by-cases}
 use Rattle.bits.proofs.Lists.{drop-next}
 use Rattle.bits.proofs.Table.{left-true, right-true, every}
 use Rattle.annex_c.specs.Sizes.{Size, sizes}
 use Rattle.annex_c.specs.AnnexC.{among, find, isSize, sizeOf}
-use Rattle.annex_c.specs.Flat.{Tables, widths, flat, sizesBefore, rowsBefore}
+use Rattle.annex_c.specs.Flat.{Tables, widths, flat, rowsBefore}
 use Rattle.annex_c.proofs.Sizes.{α-rows, β-rows}
 use Rattle.annex_c.proofs.Test.{Sound, test, tested, test-sound}
 
 -- what one more width says of the rest
 module _ (w : ℕ) (l : List ℕ) (k : ℕ) (h : k < length l) where
-  pub sizes-here : getD l k 0 ≡ w → sizesBefore w (drop k l) ≡ 0
-  sizes-here e = rw (drop-next l k h, eq-eqb _ _ e)
-
   pub rows-here : getD l k 0 ≡ w → rowsBefore w (drop k l) ≡ 0
   rows-here e = rw (drop-next l k h, eq-eqb _ _ e)
-
-  pub sizes-next : (getD l k 0 ≡ w → ⊥) → sizesBefore w (drop k l) ≡ suc (sizesBefore w (drop (k + 1) l))
-  sizes-next n = rw (drop-next l k h, ne-eqb _ _ n)
 
   pub rows-next : (getD l k 0 ≡ w → ⊥) → rowsBefore w (drop k l) ≡ getD l k 0 + rowsBefore w (drop (k + 1) l)
   rows-next n = rw (drop-next l k h, ne-eqb _ _ n)
 
 -- a table with an entry for each size has the size's own behind those of the sizes before it
 module _ (w : ℕ) where
-  before-inside : (ss : List Size) → among w ss ≡ true → sizesBefore w (widths ss) < length ss
+  before-inside : (ss : List Size) → among w ss ≡ true → place w (widths ss) < length ss
+  unfolding place
   before-inside [] h = absurd (false≢true h)
   before-inside (s ∷ ss) h = by-cases (eqb (s .W) w) (λ e. rw e (omega arith)) (λ n. rw n (omega (arith, before-inside ss (rw n at h))))
 
-  entry-at : {A : Type 0} (f : Size → A) (d : A) (ss : List Size) → among w ss ≡ true → getD (map f ss) (sizesBefore w (widths ss)) d ≡ f (find w ss)
+  entry-at : {A : Type 0} (f : Size → A) (d : A) (ss : List Size) → among w ss ≡ true → getD (map f ss) (place w (widths ss)) d ≡ f (find w ss)
+  unfolding place
   entry-at f d [] h = absurd (false≢true h)
   entry-at f d (s ∷ ss) h = by-cases (eqb (s .W) w) (λ e. rw e) (λ n. rw n (entry-at f d ss (rw n at h)))
 
-  module _ (h : isSize w ≡ true) {k : ℕ} (e : k ≡ sizesBefore w (widths sizes)) where
+  module _ (h : isSize w ≡ true) {k : ℕ} (e : k ≡ place w (widths sizes)) where
     pub size-inside : k < length sizes
     unfolding isSize
     size-inside = rw e (before-inside sizes h)

@@ -1,7 +1,7 @@
 -- The flat tables of the code: the sizes of annex C one behind the other, and where a size stands.
 use mathlib.Core.Path.{_≡_}
 use mathlib.Core.List.{List, [], _∷_, _++_, map}
-use Prim.Native.Nat.{ℕ, suc, _+_}
+use Prim.Native.Nat.{ℕ, _+_}
 use lib.Dec.{eqb}
 use Rattle.bits.specs.Choice.{if_then_else_}
 use Rattle.annex_c.specs.Sizes.{Size, sizes}
@@ -20,11 +20,7 @@ pub record Tables (ws xs ys : List ℕ) : Type 0 where
   pub α : xs ≡ flat (λ s. s .α) sizes
   pub β : ys ≡ flat (λ s. s .β) sizes
 
--- how many sizes, and how many rows, stand before the size with this W
-abbrev pub sizesBefore : ℕ → List ℕ → ℕ
-sizesBefore w [] = 0
-sizesBefore w (x ∷ xs) = if eqb x w then 0 else suc (sizesBefore w xs)
-
+-- how many rows stand before the size with this W; how many sizes do is its place among the widths
 abbrev pub rowsBefore : ℕ → List ℕ → ℕ
 rowsBefore w [] = 0
 rowsBefore w (x ∷ xs) = if eqb x w then 0 else x + rowsBefore w xs

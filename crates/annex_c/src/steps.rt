@@ -4,8 +4,9 @@ ghost use mathlib.Core.Bool.{true};
 ghost use mathlib.Core.List.{_++_};
 ghost use Prim.Native.Nat.{_^_, _≤_, _<_};
 ghost use lib.ListN.{length, drop};
+ghost use Rattle.bits.specs.Place.{place};
 ghost use Rattle.annex_c.specs.AnnexC.{isSize, sizeOf};
-ghost use Rattle.annex_c.specs.Flat.{Tables, sizesBefore, rowsBefore};
+ghost use Rattle.annex_c.specs.Flat.{Tables, rowsBefore};
 use crate::tables;
 
 // W of the largest size: the room that any size's vectors take.
@@ -75,7 +76,7 @@ struct Place {
 // Where the size with W = w stands.
 fn locate(widths: &[usize], w: usize) -> Place
     requires { ⌜ rowsBefore w (now widths) < 2 ^ 64 ⌝ }
-    ensures { λ r. ⌜ r .sizes ≡ sizesBefore w (now (widths .entry)) ⌝ }
+    ensures { λ r. ⌜ r .sizes ≡ place w (now (widths .entry)) ⌝ }
     ensures { λ r. ⌜ r .rows ≡ rowsBefore w (now (widths .entry)) ⌝ }
 {
     let mut sizes = 0;

@@ -1,12 +1,12 @@
 // Reads a job line from standard input and prints its row, or the number of the check that refuses it (document 01).
 use interleaver::Source;
-use job::Job;
+use job_line::Job;
 use libc::STDERR_FILENO;
 use libc::STDIN_FILENO;
 use libc::STDOUT_FILENO;
 
 // One byte more than the longest line: an input that fills it is refused, whatever follows, so the rest is not read.
-const INPUT: usize = job::LONGEST_LINE + 1;
+const INPUT: usize = job_line::LONGEST + 1;
 
 fn main() {
     let mut input = [0u8; INPUT];
@@ -24,7 +24,7 @@ fn print(input: &[u8]) {
 
 // A line on standard error if the codeword is not the standard's.
 fn warn(input: &[u8]) {
-    let Job::Run { format, pattern: _ } = job::parse(input) else {
+    let Job::Run { format, pattern: _ } = job_line::parse(input) else {
         return;
     };
     let Source::StandIn = interleaver::provenance(format) else {

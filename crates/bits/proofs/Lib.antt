@@ -1,7 +1,9 @@
 pub mod Cases
+pub mod Digits
 pub mod Fill
 pub mod Legal
 pub mod Lists
 pub mod Passed
+pub mod Places
 pub mod Sums
 pub mod Table

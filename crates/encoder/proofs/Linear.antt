@@ -7,6 +7,7 @@ use native.Mathlib.Omega.{arith}
 use borrow.Author.Tests.{le-leb}
 use lib.Bits.{bitXor, xor-add-and, xor-lt, xor-block}
 use lib.ListN.{length, getD}
+use Rattle.bits.specs.Digits.{valueFrom, value}
 use Rattle.bits.specs.Legal.{allBits}
 use Rattle.bits.specs.Sum.{_⊕_, _⊕*_}
 use Rattle.bits.proofs.Legal.{legal-at, legal-head, legal-tail}
@@ -22,7 +23,7 @@ use Rattle.puncture.specs.Puncture.{survives, keptAt, rateMatched}
 use Rattle.puncture.proofs.Kept.{kept-sum, kept-length}
 use Rattle.puncture.proofs.Matched.{rate-matched-sum, rate-matched-length}
 use Rattle.encoder.specs.Codeword.{readFrom, upper, lower, registers, interleaved, fromOuter, codeword}
-use Rattle.encoder.specs.Labels.{rowFrom, valueFrom, value, label, labels}
+use Rattle.encoder.specs.Labels.{rowFrom, label, labels}
 use Rattle.encoder.proofs.Codewords.{read-length, upper-long, outer-long}
 use Rattle.encoder.proofs.Rows.{labels-get}
 
@@ -93,15 +94,15 @@ packed-xor n m x y hx hy =
     sym (ap₂ bitXor (sym (double n x)) (sym (double m y)) ∙ xor-block 1 n m x y (omega arith) (omega arith) ∙ omega (arith, xor-of-bits x y hx hy))
 
 value-from-xor : (n m : ℕ) (a b : List ℕ) → length a ≡ length b → allBits a ≡ true → allBits b ≡ true
-    → valueFrom (bitXor n m) (a ⊕* b) ≡ bitXor (valueFrom n a) (valueFrom m b)
+    → valueFrom 2 (bitXor n m) (a ⊕* b) ≡ bitXor (valueFrom 2 n a) (valueFrom 2 m b)
 value-from-xor n m [] [] e ha hb = refl
 value-from-xor n m [] (y ∷ b) e ha hb = absurd (omega arith)
 value-from-xor n m (x ∷ a) [] e ha hb = absurd (omega arith)
 value-from-xor n m (x ∷ a) (y ∷ b) e ha hb =
-    ap (λ (k : ℕ). valueFrom k (a ⊕* b)) (packed-xor n m x y (legal-head 1 x a ha) (legal-head 1 y b hb))
+    ap (λ (k : ℕ). valueFrom 2 k (a ⊕* b)) (packed-xor n m x y (legal-head 1 x a ha) (legal-head 1 y b hb))
     ∙ value-from-xor (2 * n + x) (2 * m + y) a b (omega arith) (legal-tail 1 x a ha) (legal-tail 1 y b hb)
 
-pub value-xor : (a b : List ℕ) → length a ≡ length b → allBits a ≡ true → allBits b ≡ true → value (a ⊕* b) ≡ bitXor (value a) (value b)
+pub value-xor : (a b : List ℕ) → length a ≡ length b → allBits a ≡ true → allBits b ≡ true → value 2 (a ⊕* b) ≡ bitXor (value 2 a) (value 2 b)
 value-xor a b e ha hb = value-from-xor 0 0 a b e ha hb
 
 -- a row of a codeword
@@ -120,7 +121,7 @@ row-sum a b e p (suc m) = rw (⊕*-at a b p e, row-sum a b e (p + symbols) m)
 module _ (m : ℕ) (a b : List ℕ) (e : length a ≡ length b) (ha : allBits a ≡ true) (hb : allBits b ≡ true) (r : ℕ) (h : r < symbols) where
   label-xor : label m (a ⊕* b) r ≡ bitXor (label m a r) (label m b r)
   label-xor =
-      ap value (row-sum a b e r m)
+      ap (value 2) (row-sum a b e r m)
       ∙ value-xor (rowFrom a r m) (rowFrom b r m) (row-length a r m ∙ sym (row-length b r m)) (row-bits a ha r m) (row-bits b hb r m)
 
   at : (l : List ℕ) → getD (labels m l) r 0 ≡ label m l r

@@ -9,12 +9,14 @@ use native.Mathlib.Omega.{arith}
 use lib.ListN.{length, getD, drop, take, set, replicate, length-drop}
 use lib.Seq.{length-take-le, take-suc-set, drop-set-lt, getD-take, getD-drop}
 use lib.Pow.{pow-mono}
+use Rattle.bits.specs.Digits.{value}
 use Rattle.bits.specs.Legal.{allBits}
+use Rattle.bits.proofs.Digits.{value-last}
 use Rattle.bits.proofs.Legal.{legal-at}
 use Rattle.bits.proofs.Lists.{drop-next}
 use Rattle.acm.specs.Formats.{symbols}
 use Rattle.encoder.specs.Columns.{appended}
-use Rattle.encoder.specs.Labels.{rowFrom, valueFrom, value, label, labelsFrom, labels}
+use Rattle.encoder.specs.Labels.{rowFrom, label, labelsFrom, labels}
 
 row-next : (codeword : List ℕ) (p m : ℕ) → rowFrom codeword p (suc m) ≡ rowFrom codeword p m ++ getD codeword (p + m * symbols) 0 ∷ []
 row-next codeword p zero =
@@ -25,12 +27,8 @@ row-next codeword p (suc m) =
     ap (λ (l : List ℕ). getD codeword p 0 ∷ l)
     (row-next codeword (p + symbols) m ∙ ap (λ (q : ℕ). rowFrom codeword (p + symbols) m ++ getD codeword q 0 ∷ []) e)
 
-value-next : (n : ℕ) (bits : List ℕ) (b : ℕ) → valueFrom n (bits ++ b ∷ []) ≡ 2 * valueFrom n bits + b
-value-next n [] b = refl
-value-next n (x ∷ bits) b = value-next (2 * n + x) bits b
-
 pub label-next : (m : ℕ) (codeword : List ℕ) (r : ℕ) → label (suc m) codeword r ≡ 2 * label m codeword r + getD codeword (r + m * symbols) 0
-label-next m codeword r = ap value (row-next codeword r m) ∙ value-next 0 (rowFrom codeword r m) (getD codeword (r + m * symbols) 0)
+label-next m codeword r = ap (value 2) (row-next codeword r m) ∙ value-last 2 0 (rowFrom codeword r m) (getD codeword (r + m * symbols) 0)
 
 pub labels-none : (codeword : List ℕ) (r k : ℕ) → labelsFrom 0 codeword r k ≡ replicate k 0
 labels-none codeword r zero = refl

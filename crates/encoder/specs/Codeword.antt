@@ -8,14 +8,14 @@ use Rattle.trellis.specs.Trellis.{zero-state, ends, parities, termination, oute
 use Rattle.interleaver.specs.Interleaver.{π}
 use Rattle.puncture.specs.Puncture.{punctured, rateMatched}
 
--- annex C: the inner encoder reads, at time i, the bit that the outer one wrote at π(i); n bits from time i on
+-- annex C: the inner encoder reads, at time i, the bit that the outer one wrote at ρ(i); n bits from time i on
 abbrev pub readFrom : (ℕ → ℕ) → List ℕ → ℕ → ℕ → List ℕ
-readFrom π kept i zero = []
-readFrom π kept i (suc n) = getD kept (π i) 0 ∷ readFrom π kept (i + 1) n
+readFrom ρ kept i zero = []
+readFrom ρ kept i (suc n) = getD kept (ρ i) 0 ∷ readFrom ρ kept (i + 1) n
 
 -- 4.4.1: the upper register has the inner systematic bits, and the two terminating ones, which are always transmitted
 abbrev pub upper : ℕ → (ℕ → ℕ) → List ℕ → List ℕ
-upper Ssur π bits = punctured Ssur π bits ++ termination (ends zero-state bits)
+upper Ssur ρ bits = punctured Ssur ρ bits ++ termination (ends zero-state bits)
 
 -- 4.4.3: the lower register has the inner parity bits, and the two of the terminating steps, which are always transmitted
 abbrev pub lower : ℕ → ℕ → List ℕ → List ℕ
@@ -24,13 +24,13 @@ lower I Δ bits =
 
 -- 4.5: the systematic bits first, then the parity bits
 abbrev pub registers : Format → (ℕ → ℕ) → List ℕ → List ℕ
-registers r π bits = upper (r .survivors) π bits ++ lower (r .i) (r .delta) bits
+registers r ρ bits = upper (r .survivors) ρ bits ++ lower (r .i) (r .delta) bits
 
 -- the interleaver's output, for the outer kept bits
 abbrev pub interleaved : Format → (ℕ → ℕ) → List ℕ → List ℕ
-interleaved r π kept = readFrom π kept 0 (r .i)
+interleaved r ρ kept = readFrom ρ kept 0 (r .i)
 
--- the codeword of the outer kept bits, and that of an information block, in ACM format f
+-- the codeword of the outer kept bits, and that of an information block, in ACM format f, whose interleaver is π f
 unfoldable pub fromOuter : ℕ → List ℕ → List ℕ
 fromOuter f kept = registers (formatOf f) (π f) (interleaved (formatOf f) (π f) kept)
 

@@ -11,17 +11,17 @@ use lib.Seq.{take-all, length-take-le}
 use Rattle.bits.specs.Checks.{passed, badLine}
 use Rattle.bits.proofs.Cases.{by-cases}
 use Rattle.acm.specs.Formats.{isFormat, formatOf}
-use Rattle.acm.proofs.Laws.{format-high}
+use Rattle.acm.proofs.Laws.{format-high, within}
 use Rattle.encoder.specs.Codeword.{codeword}
 use Rattle.encoder.proofs.Codewords.{codeword-length}
-use Rattle.job.specs.Text.{separator, decimal, line}
-use Rattle.job.specs.Line.{longestLine, isLine, formatIn, patternIn}
-use Rattle.job.specs.Job.{jobNumber}
-use Rattle.job.specs.Row.{block, ones, rowOf}
+use Rattle.ascii.specs.Text.{separator, decimal, line}
+use Rattle.ascii.proofs.Decimal.{decimal-length}
+use Rattle.row.specs.Row.{block, ones, rowOf}
+use Rattle.row.proofs.Rows.{ones-most}
+use Rattle.job_line.specs.Line.{longestLine, isLine, formatIn, patternIn}
+use Rattle.job_line.specs.Job.{jobNumber}
+use Rattle.job_line.proofs.Lines.{line-short}
 use Rattle.job.specs.Output.{longestOutput, rowText, refusalText, output}
-use Rattle.job.proofs.Decimal.{decimal-length}
-use Rattle.job.proofs.Lines.{line-short}
-use Rattle.job.proofs.Rows.{within, ones-most}
 
 line-length : (n : ℕ) (ns : List ℕ) → length (line (n ∷ ns)) ≡ length (decimal n) + 1 + length (line ns)
 line-length n ns = length-append (decimal n) (separator ns ∷ line ns) ∙ omega arith

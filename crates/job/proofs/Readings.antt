@@ -1,8 +1,9 @@
 -- Document 01's readings of job lines.
 use mathlib.Core.Path.{_≡_, refl}
-use Rattle.job.specs.Text.{ascii, decimal, decimalWithin}
-use Rattle.job.specs.Line.{place, formatIn, patternIn, isLine}
-use Rattle.job.specs.Job.{jobNumber}
+use Rattle.bits.specs.Place.{place}
+use Rattle.ascii.specs.Text.{ascii, decimal, decimalWithin}
+use Rattle.job_line.specs.Line.{formatIn, patternIn, isLine}
+use Rattle.job_line.specs.Job.{jobNumber}
 use Rattle.job.specs.Output.{refusalText, output}
 
 leading-zero : output (ascii "07,0\n") ≡ ascii "refused,6\n"

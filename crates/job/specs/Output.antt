@@ -2,22 +2,17 @@
 use mathlib.Core.List.{List, [], _∷_, _++_}
 use Prim.Native.Nat.{ℕ}
 use lib.Dec.{eqb}
-use lib.ListN.{length, drop}
 use Rattle.bits.specs.Checks.{passed}
 use Rattle.bits.specs.Choice.{if_then_else_}
-use Rattle.job.specs.declared.row.Row.{Row}
-use Rattle.job.specs.Text.{ascii, line}
-use Rattle.job.specs.Line.{formatIn, patternIn}
-use Rattle.job.specs.Job.{jobNumber}
-use Rattle.job.specs.Row.{rowOf}
+use Rattle.ascii.specs.Text.{ascii, line}
+use Rattle.row.specs.declared.steps.Row.{Row}
+use Rattle.row.specs.Row.{rowOf}
+use Rattle.job_line.specs.Line.{formatIn, patternIn}
+use Rattle.job_line.specs.Job.{jobNumber}
 
 -- bytes of the longest output
 abbrev pub longestOutput : ℕ
 longestOutput = 45
-
--- a buffer with a text at its front
-abbrev pub atFront : List ℕ → List ℕ → List ℕ
-atFront text out = text ++ drop (length text) out
 
 abbrev pub header : List ℕ
 header = ascii "format,K,I,N,ones\n"

@@ -6,10 +6,10 @@ use Prim.Native.Nat.{ℕ}
 use lib.ListN.{length}
 use Rattle.bits.specs.Checks.{passed}
 use Rattle.acm.specs.Formats.{isFormat}
-use Rattle.job.specs.Line.{formatIn, patternIn}
-use Rattle.job.specs.Job.{jobNumber, answerOf}
-use Rattle.job.specs.Output.{atFront}
-use Rattle.job.proofs.Checked.{job-passed, run-read, refusal-read}
+use Rattle.ascii.specs.Text.{atFront}
+use Rattle.job_line.specs.Line.{formatIn, patternIn}
+use Rattle.job_line.specs.Job.{jobNumber, answerOf}
+use Rattle.job_line.proofs.Checked.{job-passed, run-read, refused-read}
 use borrow.Author.Needs.{needs}
 use Rattle.job.proofs.Outputs.{output-row, output-refusal}
 use Rattle.job.proofs.output.Statement.{statement}
@@ -48,7 +48,7 @@ returns-2 : tie.Need-returns-2
 returns-2 c =
     let m = c .before .before .before in
     let a = m .before .before .before .before .args in
-    let (is, no-pass) = refusal-read _ _ (ap answerOf (sym (m .number .given .1)) ∙ m .before .before .parse .ensures) in
+    let (is, no-pass) = refused-read _ _ (ap answerOf (sym (m .number .given .1)) ∙ m .before .before .parse .ensures) in
     subst (λ (printed : List ℕ). (c .put-refusal .result ≡ length printed) × (c .put-refusal .last .1 .0 ≡ atFront printed (a .out .now))) (output-refusal (a .text .now) is no-pass) (c .put-refusal .ensures)
 
 pub output-spec : {M : Type 1} → statement M

@@ -4,10 +4,10 @@ use Prim.Native.Nat.{_≤_}
 use native.Mathlib.Omega.{arith}
 use borrow.Author.Needs.{needs}
 use lib.ListN.{length}
-use Rattle.job.specs.Text.{ascii, line}
+use Rattle.ascii.specs.Text.{ascii, line}
+use Rattle.ascii.proofs.Stores.{front-room, front-put}
 use Rattle.job.specs.Output.{refusalText}
 use Rattle.job.proofs.Outputs.{refusal-length}
-use Rattle.job.proofs.Stores.{front-room, front-put}
 use Rattle.job.proofs.put_refusal.Statement.{statement}
 use Rattle.job.proofs.put_refusal.Tie as tie
 

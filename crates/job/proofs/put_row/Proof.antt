@@ -4,11 +4,11 @@ use Prim.Native.Nat.{_≤_}
 use native.Mathlib.Omega.{arith}
 use borrow.Author.Needs.{needs}
 use lib.ListN.{length}
-use Rattle.job.specs.declared.row.Row.{Row}
-use Rattle.job.specs.Text.{line}
-use Rattle.job.specs.Output.{header, numbers, rowText, atFront}
+use Rattle.ascii.specs.Text.{line, atFront}
+use Rattle.ascii.proofs.Stores.{front-room, front-put}
+use Rattle.row.specs.declared.steps.Row.{Row}
+use Rattle.job.specs.Output.{header, numbers, rowText}
 use Rattle.job.proofs.Outputs.{row-length}
-use Rattle.job.proofs.Stores.{front-room, front-put}
 use Rattle.job.proofs.put_row.Statement.{statement}
 use Rattle.job.proofs.put_row.Tie as tie
 

@@ -4,15 +4,17 @@ use Prim.Native.Nat.{_+_, _-_, _≤_}
 use native.Mathlib.Omega.{arith}
 use borrow.Author.Needs.{needs}
 use lib.ListN.{length, drop, drop-of-length-le}
-use Rattle.annex_c.specs.Flat.{sizesBefore, rowsBefore}
-use Rattle.annex_c.proofs.Flats.{sizes-here, rows-here, sizes-next, rows-next}
+use Rattle.bits.specs.Place.{place}
+use Rattle.bits.proofs.Places.{place-here, place-later, place-end}
+use Rattle.annex_c.specs.Flat.{rowsBefore}
+use Rattle.annex_c.proofs.Flats.{rows-here, rows-next}
 use Rattle.annex_c.proofs.steps.locate.Statement.{statement}
 use Rattle.annex_c.proofs.steps.locate.Tie as tie
 
 abbrev Inv-loop : tie.InvT-loop
 Inv-loop widths w sizes₀ rows₀ sizes rows =
     (sizes ≤ length widths)
-    × (sizes + sizesBefore w (drop sizes widths) ≡ sizesBefore w widths)
+    × (sizes + place w (drop sizes widths) ≡ place w widths)
     × (rows + rowsBefore w (drop sizes widths) ≡ rowsBefore w widths)
 
 abbrev μ-loop : tie.MeasureT-loop
@@ -32,7 +34,7 @@ returns c =
     let a = c .before .before .before .before .args in
     let k = c .before .before .before .loop .sizes in
     let h = c .before .before .loop-test .taken in (
-      omega (arith, sizes-here (a .w) (a .widths .now) k h (c .if1 .taken)),
+      omega (arith, place-here (a .w) (a .widths .now) k h (c .if1 .taken)),
       omega (arith, rows-here (a .w) (a .widths .now) k h (c .if1 .taken)),
     )
 
@@ -61,14 +63,18 @@ loop-again c =
     let k = c .before .before .before .before .loop .sizes in
     let h = c .before .before .before .loop-test .taken in (
       omega arith,
-      omega (arith, sizes-next (a .w) (a .widths .now) k h (c .before .if1 .left)),
+      omega (arith, place-later (a .w) (a .widths .now) k h (c .before .if1 .left)),
       omega (arith, rows-next (a .w) (a .widths .now) k h (c .before .if1 .left)),
     )
 
 returns-2 : tie.Need-returns-2 Inv-loop μ-loop
 returns-2 c =
-    let nothing = drop-of-length-le (c .before .before .args .widths .now) (c .loop-test .left) in
-    (omega (arith, rw nothing at (c .before .loop .inv .1)), omega (arith, rw nothing at (c .before .loop .inv .2)))
+    let a = c .before .before .args in
+    let past = c .loop-test .left in
+    let nothing = drop-of-length-le (a .widths .now) past in (
+      omega (arith, place-end (a .w) (a .widths .now) (c .before .loop .sizes) past),
+      omega (arith, rw nothing at (c .before .loop .inv .2)),
+    )
 
 pub locate-spec : {M : Type 1} → statement M
 locate-spec =

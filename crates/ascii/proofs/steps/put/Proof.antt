@@ -1,0 +1,64 @@
+-- What is left to put after i bytes are the words from i on.
+use Prim.Native.Nat.{_+_, _-_, _≤_}
+use native.Mathlib.Omega.{arith}
+use lib.ListN.{length, drop, drop-of-length-le}
+use Rattle.bits.proofs.Fill.{Left, fill-start, fill-next, fill-end}
+use Rattle.bits.proofs.Lists.{drop-next}
+use borrow.Author.Needs.{needs}
+use Rattle.ascii.proofs.steps.put.Statement.{statement}
+use Rattle.ascii.proofs.steps.put.Tie as tie
+
+abbrev Inv-loop : tie.InvT-loop
+Inv-loop words out₀ at i₀ out i = (i ≤ length words) × Left out₀ at words out (at + i) (drop i words)
+
+abbrev μ-loop : tie.MeasureT-loop
+μ-loop words out₀ at i₀ out i = length words - i
+
+loop-holds : tie.Need-loop-holds Inv-loop μ-loop
+loop-holds c = (omega arith, fill-start _ _ _)
+
+shared-slice-read-out : tie.Need-shared-slice-read-out Inv-loop μ-loop
+shared-slice-read-out c = search needs
+
+add-out : tie.Need-add-out Inv-loop μ-loop
+add-out c = search needs
+
+slice-write-out : tie.Need-slice-write-out Inv-loop μ-loop
+slice-write-out c = search needs
+
+add-i : tie.Need-add-i Inv-loop μ-loop
+add-i c = search needs
+
+loop-less : tie.Need-loop-less Inv-loop μ-loop
+loop-less c = search needs
+
+loop-again : tie.Need-loop-again Inv-loop μ-loop
+loop-again c =
+    let l = c .before .before in
+    (omega arith, fill-next _ (drop-next _ _ (c .before .loop-test .taken)) (l .loop .inv .1))
+
+add-result : tie.Need-add-result Inv-loop μ-loop
+add-result c = search needs
+
+same-length : tie.Need-same-length Inv-loop μ-loop
+same-length c = search needs
+
+returns : tie.Need-returns Inv-loop μ-loop
+returns c = (omega arith, fill-end (drop-of-length-le _ (c .loop-test .left)) (c .before .loop .inv .1))
+
+pub put-spec : {M : Type 1} → statement M
+put-spec =
+    tie.close
+    (tie.spec
+    Inv-loop
+    μ-loop
+    loop-holds
+    shared-slice-read-out
+    add-out
+    slice-write-out
+    add-i
+    loop-less
+    loop-again
+    add-result
+    same-length
+    returns)

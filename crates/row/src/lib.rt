@@ -1,0 +1,2 @@
+// The row that the bench prints for a job.
+pub mod steps;
