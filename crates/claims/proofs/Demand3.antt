@@ -19,10 +19,12 @@ use Rattle.trellis.specs.Trellis.{outer}
 use Rattle.trellis.proofs.Runs.{terminated-ends}
 use Rattle.interleaver.specs.Interleaver.{π}
 use Rattle.interleaver.proofs.Formats.{π-permutes}
-use Rattle.encoder.specs.Codeword.{interleaved, codeword}
-use Rattle.encoder.specs.Labels.{labels}
+use Rattle.inner.specs.Registers.{interleaved}
+use Rattle.mapping.specs.Labels.{labels}
+use Rattle.encoder.specs.Codeword.{codeword}
 use Rattle.encoder.proofs.Codewords.{codeword-length, codeword-bits}
-use Rattle.encoder.proofs.Linear.{codeword-sum, labels-xor}
+use Rattle.mapping.proofs.Xor.{labels-xor}
+use Rattle.encoder.proofs.Linear.{codeword-sum}
 use Rattle.claims.specs.Demand3.{Block, OneWhereDiffer, blockLabels, Linear, Linearity, Termination, Demand3}
 
 -- of two bits, the sum is one exactly where they differ

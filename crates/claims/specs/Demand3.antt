@@ -12,8 +12,9 @@ use Rattle.bits.specs.Sum.{bit}
 use Rattle.acm.specs.Formats.{symbols, isFormat, formatOf}
 use Rattle.trellis.specs.Trellis.{zero-state, ends, terminated, outer}
 use Rattle.interleaver.specs.Interleaver.{π}
-use Rattle.encoder.specs.Codeword.{interleaved, codeword}
-use Rattle.encoder.specs.Labels.{labels}
+use Rattle.inner.specs.Registers.{interleaved}
+use Rattle.mapping.specs.Labels.{labels}
+use Rattle.encoder.specs.Codeword.{codeword}
 
 -- an information block of K ones and zeros
 pub record Block (f : ℕ) (block : List ℕ) : Type 0 where

@@ -8,8 +8,8 @@ use Rattle.bits.specs.Choice.{if_then_else_}
 use Rattle.bits.specs.Legal.{allBits}
 use Rattle.acm.specs.Formats.{symbols, isFormat, formatOf}
 use Rattle.trellis.specs.Trellis.{outer}
+use Rattle.mapping.specs.Labels.{labels}
 use Rattle.encoder.specs.Codeword.{codeword}
-use Rattle.encoder.specs.Labels.{labels}
 
 -- encode: the block is lent, a workspace of so many bytes and an output of so many
 abbrev pub encodeChecks : ℕ → List ℕ → ℕ → ℕ → List Check

@@ -1,5 +1,2 @@
 pub mod Calls
 pub mod Codeword
-pub mod Columns
-pub mod Inner
-pub mod Labels

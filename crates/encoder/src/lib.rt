@@ -4,9 +4,6 @@ ghost use lib.ListN.{length};
 ghost use Rattle.encoder.specs.Calls.{encodeNumber, encodeWorkspace, encodeOutput, labelsNumber, labelsOutput};
 use bits::checks;
 
-mod columns;
-mod inner;
-
 // The codeword of an information block.
 // Checks: 1; 2, the block has K bits; 3, each is 0 or 1; 4, the workspace has at least I bytes; 5, the output has at least N bytes.
 // Afterwards the first I bytes of work are the outer kept bits before interleaving, the first N bytes of out are the codeword, and the
@@ -21,7 +18,7 @@ pub fn encode(format: u64, block: &[u8], work: &mut [u8], out: &mut [u8]) -> u8
         return number;
     }
     trellis::steps::outer(block, work);
-    inner::encode(format, work, out);
+    inner::steps::encode(format, work, out);
     checks::PASSED
 }
 
@@ -59,7 +56,7 @@ pub fn labels(format: u64, codeword: &[u8], out: &mut [u8]) -> u8
         return number;
     }
     let f = acm::steps::parameters(format);
-    columns::write(f.m, codeword, out);
+    mapping::steps::write(f.m, codeword, out);
     checks::PASSED
 }
 

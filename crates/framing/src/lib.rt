@@ -11,15 +11,13 @@ ghost use Rattle.framing.specs.Calls.{frameNumber, frameOutput, sectionL
 use acm::SYMBOLS;
 use bits::checks;
 
-mod header;
-
 // Codeword sections of a frame.
 const SECTIONS: usize = 16;
 
 // Labels and slots of a frame.
 pub const FRAME_LABELS: usize = SECTIONS * SYMBOLS;
 
-pub const FRAME_LENGTH: usize = header::LENGTH + FRAME_LABELS;
+pub const FRAME_LENGTH: usize = header::steps::LENGTH + FRAME_LABELS;
 
 // The frame of sixteen codewords' labels, without pilots: marker and descriptor bits as 256 for 0 and 257 for 1, then the labels.
 // Checks: 1; 2, there are 129,600 labels; 3, each is below 2^m; 5, the output has at least 129,920 slots.
@@ -60,8 +58,8 @@ fn put_frame(format: u64, labels: &[u8], out: &mut [u16])
     requires { ⌜ (isFormat format ≡ true) × (length (now labels) ≡ frameLabels) × (frameLength ≤ length (now out)) ⌝ }
     ensures { λ _. ⌜ now (out .exit) ≡ frameOf format (now (labels .entry)) ++ drop frameLength (now (out .entry)) ⌝ }
 {
-    header::put(format, out);
-    put_labels(labels, out, header::LENGTH);
+    header::steps::put(format, out);
+    put_labels(labels, out, header::steps::LENGTH);
 }
 
 // Labels as slots, from the slot at on.

@@ -10,10 +10,12 @@ use Rattle.bits.proofs.Passed.{when-passed, when-refused}
 use Rattle.acm.specs.Formats.{formatOf}
 use Rattle.acm.proofs.Laws.{format-sound}
 use Rattle.trellis.specs.Trellis.{outer}
-use Rattle.encoder.specs.Codeword.{fromOuter, codeword}
+use Rattle.inner.specs.Registers.{fromOuter}
+use Rattle.inner.proofs.Codewords.{from-outer-front}
+use Rattle.encoder.specs.Codeword.{codeword}
 use Rattle.encoder.specs.Calls.{encodeNumber, encodeWorkspace, encodeOutput}
 use Rattle.encoder.proofs.Checked.{EncodePassed, encode-passed}
-use Rattle.encoder.proofs.Codewords.{outer-long, from-outer-front}
+use Rattle.encoder.proofs.Codewords.{outer-long}
 use Rattle.encoder.proofs.encode.Statement.{statement}
 use Rattle.encoder.proofs.encode.Tie as tie
 

@@ -8,7 +8,7 @@ use Rattle.bits.proofs.Passed.{when-passed, when-refused}
 use Rattle.acm.specs.Formats.{symbols, formatOf}
 use Rattle.acm.specs.declared.table.Format.{Format}
 use Rattle.acm.proofs.Laws.{format-sound}
-use Rattle.encoder.specs.Labels.{labels}
+use Rattle.mapping.specs.Labels.{labels}
 use Rattle.encoder.specs.Calls.{labelsOutput}
 use Rattle.encoder.proofs.Checked.{LabelsPassed, labels-passed}
 use Rattle.encoder.proofs.labels.Statement.{statement}

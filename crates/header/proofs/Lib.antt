@@ -1,0 +1,4 @@
+pub mod Descriptor
+pub mod Headers
+pub mod Marker
+pub mod Words

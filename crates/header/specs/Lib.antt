@@ -1,0 +1,4 @@
+pub mod Marker
+pub mod Descriptor
+pub mod Header
+pub mod Words

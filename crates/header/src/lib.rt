@@ -1,0 +1,2 @@
+// The frame header (5.1, 5.2): marker and descriptor.
+pub mod steps;

@@ -1,0 +1,4 @@
+pub mod Codewords
+pub mod Linear
+pub mod Registers
+pub mod Turns

@@ -1,0 +1,111 @@
+-- The loop is lent the vectors and the pattern of the format, so that what it writes is the format's codeword.
+use mathlib.Core.Path.{_≡_, sym, ap, subst, _∙_}
+use mathlib.Core.Bool.{true}
+use Prim.Native.Nat.{ℕ, _≤_}
+use native.Mathlib.Omega.{arith}
+use borrow.Author.Needs.{needs}
+use lib.ListN.{take, length-take}
+use Rattle.acm.specs.Formats.{formatOf}
+use Rattle.acm.specs.declared.table.Format.{Format}
+use Rattle.annex_c.specs.AnnexC.{isSize, sizeOf, widest}
+use Rattle.annex_c.proofs.Sizes.{size-vectors, α-rows, front-α, front-β}
+use Rattle.interleaver.proofs.Formats.{format-size}
+use Rattle.puncture.specs.Puncture.{pattern}
+use Rattle.inner.proofs.Codewords.{lent-of, written-is}
+use Rattle.inner.proofs.steps.encode.Statement.{statement}
+use Rattle.inner.proofs.steps.encode.Tie as tie
+
+-- the format's W, which every buffer of a size's vectors holds
+module _ (c : tie.After-parameters) where
+  abbrev start : tie.Start
+  start = c .before .before .before
+
+  w-is : c .parameters .result .w ≡ formatOf (start .args .format) .w
+  w-is = ap (λ (r : Format). r .w) (c .parameters .ensures)
+
+  sized : isSize (c .parameters .result .w) ≡ true
+  sized = subst (λ (w : ℕ). isSize w ≡ true) (sym w-is) (format-size _ (start .pre .0))
+
+  narrow : c .parameters .result .w ≤ widest
+  narrow =
+      let w = c .parameters .result .w in
+      omega (arith, size-vectors w sized .narrow, α-rows w sized)
+
+-- the fronts of the two buffers are the format's vectors
+module _ (c : tie.After-load) where
+  abbrev told : tie.After-parameters
+  told = c .before .before .before
+
+  α : take (told .parameters .result .w) (c .load .last .1 .0) ≡ sizeOf (formatOf (start told .args .format) .w) .α
+  α = front-α _ (sized told) (c .load .last .1 .0) _ (c .load .ensures .0) ∙ ap (λ (w : ℕ). sizeOf w .α) (w-is told)
+
+  β : take (told .parameters .result .w) (c .load .last .1 .1 .0) ≡ sizeOf (formatOf (start told .args .format) .w) .β
+  β = front-β _ (sized told) (c .load .last .1 .1 .0) _ (c .load .ensures .1) ∙ ap (λ (w : ℕ). sizeOf w .β) (w-is told)
+
+pat : (c : tie.After-write-arg) → c .before .before .before .before .pattern .result ≡ pattern (formatOf (c .before .before .before .before .before .before .before .before .before .before .before .before .before .args .format) .survivors)
+pat c = c .before .before .before .before .pattern .ensures ∙ ap (λ (r : Format). pattern (r .survivors)) (c .before .before .before .before .before .before .before .before .before .before .parameters .ensures)
+
+parameters-requires : tie.Need-parameters-requires
+parameters-requires c κs = c .before .before .pre .0
+
+slice-aggregate-load : tie.Need-slice-aggregate-load
+slice-aggregate-load c = search needs
+
+slice-aggregate-load-2 : tie.Need-slice-aggregate-load-2
+slice-aggregate-load-2 c = search needs
+
+load-requires : tie.Need-load-requires
+load-requires c κs =
+    let p = c .before .before in
+    (sized p, (narrow p, narrow p))
+
+pattern-requires : tie.Need-pattern-requires
+pattern-requires c κs = search needs
+
+array-share-prefix-alpha : tie.Need-array-share-prefix-alpha
+array-share-prefix-alpha c = omega (arith, narrow (c .before .before .before .before .before .before))
+
+slice-aggregate-write : tie.Need-slice-aggregate-write
+slice-aggregate-write c = simp length-take (omega (arith, narrow (c .before .before .before .before .before .before .before)))
+
+array-share-prefix-beta : tie.Need-array-share-prefix-beta
+array-share-prefix-beta c = omega (arith, narrow (c .before .before .before .before .before .before .before))
+
+slice-aggregate-write-2 : tie.Need-slice-aggregate-write-2
+slice-aggregate-write-2 c = simp length-take (omega (arith, narrow (c .before .before .before .before .before .before .before .before)))
+
+slice-aggregate-write-3 : tie.Need-slice-aggregate-write-3
+slice-aggregate-write-3 c = search needs
+
+write-requires : tie.Need-write-requires
+write-requires c κs =
+    let l = c .before .before .before .before .before .before .before in
+    let s = c .before .before .before .before .before .before .before .before .before .before .before .before .before in
+    lent-of (s .args .format) (s .pre .0) (c .before .before .before .before .before .before .before .before .before .before .parameters .ensures) (α l) (β l) (pat c) (s .args .work .now) (s .args .out .now) (s .pre .1) (s .pre .2)
+
+same-length : tie.Need-same-length
+same-length c = search needs
+
+returns : tie.Need-returns
+returns c =
+    let l = c .before .before .before .before .before .before .before .before .before .before in
+    let s = c .before .before .before .before .before .before .before .before .before .before .before .before .before .before .before .before in
+    c .before .before .write .ensures ∙ written-is (s .args .format) (s .pre .0) (c .before .before .before .before .before .before .before .before .before .before .before .before .before .parameters .ensures) (α l) (β l) (s .args .work .now) (s .args .out .now) (s .pre .2)
+
+pub encode-spec : {M : Type 1} → statement M
+encode-spec =
+    tie.close
+    (tie.spec
+    parameters-requires
+    slice-aggregate-load
+    slice-aggregate-load-2
+    load-requires
+    pattern-requires
+    array-share-prefix-alpha
+    slice-aggregate-write
+    array-share-prefix-beta
+    slice-aggregate-write-2
+    slice-aggregate-write-3
+    write-requires
+    same-length
+    returns)
