@@ -6,9 +6,11 @@
 # make expected   write the test programs' expected output anew, by the separately written encoder
 .PHONY: all test lib speed tables expected oracle
 
-oracle_dir = tests/oracle
-oracle = $(oracle_dir)/target/release/oracle
-cargo = cargo build --quiet --release --offline --manifest-path
+oracle = tests/oracle/target/release/oracle
+cargo_flags = --quiet --release --offline --manifest-path
+build = cargo build $(cargo_flags)
+# the tests' programs in Rust, whose own tests are run too
+rust_tests = $(wildcard tests/*/Cargo.toml)
 random_seconds = 20
 
 all:
@@ -22,7 +24,8 @@ test: oracle lib
 	tests/c/run
 	python3 tests/python/test_sccc.py
 	tests/examples/run
-	$(cargo) tests/random/Cargo.toml
+	for crate in $(rust_tests); do cargo test --all-targets $(cargo_flags) $$crate || exit 1; done
+	$(build) tests/random/Cargo.toml
 	tests/random/target/release/random --seconds $(random_seconds)
 	rt check bench
 	tests/bench-lines
@@ -42,4 +45,4 @@ expected: oracle
 	tests/expected
 
 oracle:
-	$(cargo) $(oracle_dir)/Cargo.toml
+	$(build) tests/oracle/Cargo.toml
