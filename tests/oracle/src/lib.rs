@@ -15,6 +15,7 @@ pub mod compare;
 pub mod digest;
 pub mod encoder;
 pub mod framing;
+pub mod puncturing_search;
 pub mod self_check;
 pub mod tables;
 pub mod trellis;
