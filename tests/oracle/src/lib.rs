@@ -19,3 +19,4 @@ pub mod puncturing_search;
 pub mod self_check;
 pub mod tables;
 pub mod trellis;
+pub mod wrong_rows;
