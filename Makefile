@@ -30,6 +30,7 @@ test: packages oracle lib
 	tools/annex-c-tables --check
 	$(oracle) self-check
 	tests/expected --check
+	tests/annex-c-rows
 	tests/readme
 	tests/c/run
 	$(PYTHON) tests/python/test_sccc.py
