@@ -4,42 +4,63 @@
 # make speed      time the library's calls beside a plain encoder's
 # make tables     write annex C's tables anew from data/annex-c.csv, and the expected output that rests on them
 # make expected   write the test programs' expected output anew, by the separately written encoder
-.PHONY: all test lib speed tables expected oracle
+# Each installs what it needs and the machine lacks, or says in a line what to install.
+.PHONY: all test lib speed tables expected oracle packages
+.NOTPARALLEL:
 
-oracle_dir = tests/oracle
-oracle = $(oracle_dir)/target/release/oracle
-cargo = cargo build --quiet --release --offline --manifest-path
+oracle = tests/oracle/target/release/oracle
+cargo_flags = --quiet --release --offline --manifest-path
+build = cargo build $(cargo_flags)
+# the tests' programs in Rust, whose own tests are run too
+rust_tests = $(wildcard tests/*/Cargo.toml)
 random_seconds = 20
 
+# Debian's Python, for which Debian's numpy is.
+PYTHON ?= /usr/bin/python3
+export PYTHON
+# What is tested is in build/, and the tests' programs are beside their sources.
+unexport SCCC_LIBRARY SCCC_LIB_DIR CARGO_TARGET_DIR
+
 all:
+	@tools/packages rt
 	rt check
 
-test: oracle lib
+# What is lacking is found before anything is proved.
+test: packages oracle lib
 	tools/annex-c-tables --check
 	$(oracle) self-check
 	tests/expected --check
+	tests/annex-c-rows
 	tests/readme
 	tests/c/run
-	python3 tests/python/test_sccc.py
+	$(PYTHON) tests/python/test_sccc.py
 	tests/examples/run
-	$(cargo) tests/random/Cargo.toml
+	for crate in $(rust_tests); do cargo test --all-targets $(cargo_flags) $$crate || exit 1; done
+	$(build) tests/random/Cargo.toml
 	tests/random/target/release/random --seconds $(random_seconds)
 	rt check bench
 	tests/bench-lines
 	rt ci
 
 lib:
+	@tools/packages rt cc
 	tools/build-lib
 
 speed: lib
+	@tools/packages cargo
 	tests/speed/run
 
 tables:
+	@tools/packages python3
 	tools/annex-c-tables
 	$(MAKE) expected
 
 expected: oracle
 	tests/expected
 
+packages:
+	@tools/packages
+
 oracle:
-	$(cargo) $(oracle_dir)/Cargo.toml
+	@tools/packages cc cargo
+	$(build) tests/oracle/Cargo.toml

@@ -1,4 +1,4 @@
-"""python/sccc.py over build/libsccc.so. Run: python3 tests/python/test_sccc.py"""
+"""python/sccc.py over build/libsccc.so, with plain memory and with numpy's arrays. Run by a Python that has numpy."""
 import csv
 import ctypes
 import mmap
@@ -12,6 +12,8 @@ import unittest
 from array import array
 from concurrent.futures import ThreadPoolExecutor
 
+import numpy
+
 ROOT = os.path.dirname(os.path.dirname(os.path.dirname(os.path.abspath(__file__))))
 MODULE = os.path.join(ROOT, "python", "sccc.py")
 LIBRARY = os.path.join(ROOT, "build", "libsccc.so")
@@ -19,11 +21,6 @@ sys.dont_write_bytecode = True
 sys.path.insert(0, os.path.dirname(MODULE))
 
 import sccc  # noqa: E402
-
-try:
-    import numpy
-except ImportError:
-    numpy = None
 
 NOT_FORMATS = (0, 28, 256, 257, 2**32 + 1, 2**64 - 1, 2**64, 2**64 + 1, 2**128 + 1, -1)
 NOT_SMALL = (256, 2**32, 2**64 - 1, 2**64, -1, -(2**64))
@@ -349,7 +346,6 @@ class Library(Case):
         self.assertIn("OSError", self.elsewhere(f"import sccc; {call}", SCCC_LIBRARY="/none").stderr)
 
 
-@unittest.skipIf(numpy is None, "numpy is not installed")
 class Numpy(Case):
     def test_arrays(self):
         block = numpy.frombuffer(seeded(5, 5758), dtype=numpy.uint8)

@@ -15,6 +15,8 @@ pub mod compare;
 pub mod digest;
 pub mod encoder;
 pub mod framing;
+pub mod puncturing_search;
 pub mod self_check;
 pub mod tables;
 pub mod trellis;
+pub mod wrong_rows;

@@ -6,7 +6,7 @@
 use oracle::annex_c::{self, AnnexC};
 use oracle::digest::{digest, frame_blocks, pattern_block, vector_blocks};
 use oracle::encoder::{encode, labels};
-use oracle::{annex_d, framing, self_check, tables};
+use oracle::{annex_d, framing, puncturing_search, self_check, tables, wrong_rows};
 use std::io::Write;
 use std::path::PathBuf;
 use std::process::ExitCode;
@@ -19,7 +19,9 @@ const USAGE: &str = "usage: oracle [--annex-c PATH] COMMAND
   vectors              digests of six encoded blocks for each format
   frames               digests of one frame for five formats
   ones FORMAT PATTERN  ones in the codeword of pattern 0, 1 or 2
-  annex-d              the spread of each interleaver";
+  annex-d              the spread of each interleaver
+  wrong-rows           how often annex D's rule misses a wrong row of annex C
+  puncturing-search    4.4.2's search, for each order of the kept outer bits";
 
 /// Formats with a frame in the listing: one for each modulation.
 const FRAME_FORMATS: [u64; 5] = [1, 7, 13, 18, 27];
@@ -56,6 +58,8 @@ fn command(arguments: &[String]) -> Result<(String, ExitCode), String> {
         ["frames"] => frames(&annex_c()?)?,
         ["ones", format, pattern] => ones(&annex_c()?, format, pattern)?,
         ["annex-d"] => annex_d::listing(&annex_c()?),
+        ["wrong-rows"] => wrong_rows::listing(&annex_c()?),
+        ["puncturing-search"] => puncturing_search::listing(),
         _ => return Err(USAGE.into()),
     };
     Ok((text, ExitCode::SUCCESS))

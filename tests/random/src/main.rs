@@ -2,17 +2,18 @@
 //! time is up. A seed fixes the cases and their order.
 
 mod calls;
+mod cases;
 mod draw;
 mod generator;
 mod lent;
 mod tally;
+mod watch;
 
-use calls::{Call, CALLS};
-use generator::Generator;
-use oracle::annex_c::{self, AnnexC};
-use std::process::ExitCode;
-use std::time::{Duration, Instant, SystemTime, UNIX_EPOCH};
-use tally::Tally;
+use cases::Cases;
+use oracle::annex_c;
+use std::process::{Command, ExitCode};
+use std::time::{Duration, SystemTime, UNIX_EPOCH};
+use watch::End;
 
 const ANNEX_C: &str = include_str!("../../../data/annex-c.csv");
 
@@ -21,8 +22,12 @@ const USAGE: &str = "usage: random [--seconds S] [--seed N] [--case N]
   --seed N     the seed, from the clock without it
   --case N     this case alone";
 
+/// The first word of the command line in the process that makes the calls.
+const WATCHED: &str = "watched";
+
 /// What the command line asks for.
 struct Options {
+    watched: bool,
     seconds: u64,
     seed: u64,
     case: Option<u64>,
@@ -35,10 +40,14 @@ fn main() -> ExitCode {
         return ExitCode::from(2);
     };
     let annex_c = annex_c::parse(ANNEX_C).expect("the data file is annex C");
-    println!("seed {}", options.seed);
+    let cases = Cases {
+        annex_c: &annex_c,
+        seed: options.seed,
+    };
     let passed = match options.case {
-        Some(case) => one_case(&annex_c, options.seed, case),
-        None => all_cases(&annex_c, &options),
+        Some(case) => cases.one(case),
+        None if options.watched => cases.all(Duration::from_secs(options.seconds), watch::note),
+        None => return watched(&options, &cases),
     };
     match passed {
         Ok(text) => {
@@ -52,14 +61,35 @@ fn main() -> ExitCode {
     }
 }
 
+/// All cases, in a process of their own.
+fn watched(options: &Options, cases: &Cases) -> ExitCode {
+    println!("seed {}", options.seed);
+    let program = std::env::current_exe().expect("this program has a path");
+    let mut command = Command::new(program);
+    command.args([WATCHED, "--seconds", &options.seconds.to_string()]);
+    command.args(["--seed", &options.seed.to_string()]);
+    let end = watch::watch(&mut command, |line| println!("{line}"));
+    match end.expect("this program can be run") {
+        End::Passed => return ExitCode::SUCCESS,
+        End::Failed => {}
+        End::Crashed(how, None) => println!("CRASHED before the first case: {how}"),
+        End::Crashed(how, Some(case)) => {
+            println!("CRASHED in case {case}: {how}\n  {}", cases.again(case))
+        }
+    }
+    ExitCode::FAILURE
+}
+
 fn options(arguments: &[String]) -> Option<Options> {
     let clock = SystemTime::now().duration_since(UNIX_EPOCH).ok()?;
+    let watched = arguments.first().is_some_and(|word| word == WATCHED);
     let mut options = Options {
+        watched,
         seconds: 20,
         seed: clock.as_nanos() as u64,
         case: None,
     };
-    for pair in arguments.chunks(2) {
+    for pair in arguments[usize::from(watched)..].chunks(2) {
         let [name, value] = pair else {
             return None;
         };
@@ -72,56 +102,4 @@ fn options(arguments: &[String]) -> Option<Options> {
         }
     }
     Some(options)
-}
-
-/// Draws a case's call and compares it.
-fn compare(annex_c: &AnnexC, seed: u64, case: u64) -> (usize, calls::Compared) {
-    let mut generator = Generator::of_case(seed, case);
-    let call = drawn_call(&mut generator);
-    let compared = (CALLS[call].compare)(&mut generator, annex_c);
-    let again = |difference| {
-        let name = CALLS[call].name;
-        format!("{name} DIFFERS: {difference}\n  again: --seed {seed} --case {case}")
-    };
-    (call, compared.map_err(again))
-}
-
-/// A call's place in the list, each as often as its weight says.
-fn drawn_call(generator: &mut Generator) -> usize {
-    let mut at = generator.below(CALLS.iter().map(|call| call.weight).sum());
-    let drawn = |call: &Call| {
-        let here = at < call.weight;
-        at = at.saturating_sub(call.weight);
-        here
-    };
-    CALLS.iter().position(drawn).expect("below the sum of all")
-}
-
-fn one_case(annex_c: &AnnexC, seed: u64, case: u64) -> Result<String, String> {
-    let (call, compared) = compare(annex_c, seed, case);
-    let met = compared?;
-    Ok(format!("{} agrees: {}", CALLS[call].name, met.outcome))
-}
-
-/// Cases 0, 1, .. until the time is up or one differs.
-fn all_cases(annex_c: &AnnexC, options: &Options) -> Result<String, String> {
-    let start = Instant::now();
-    let mut tallies: Vec<Tally> = CALLS.iter().map(|_| Tally::default()).collect();
-    let mut case = 0;
-    while start.elapsed() < Duration::from_secs(options.seconds) {
-        let (call, compared) = compare(annex_c, options.seed, case);
-        tallies[call].add(compared?);
-        case += 1;
-    }
-    let mut missing = Vec::new();
-    for (call, tally) in CALLS.iter().zip(&tallies) {
-        println!("{}", tally.line(call.name));
-        for outcome in tally.missing(call.outcomes) {
-            missing.push(format!("{} {outcome}", call.name));
-        }
-    }
-    if missing.is_empty() {
-        return Ok(format!("ok: {case} cases, and none differs"));
-    }
-    Err(format!("NOT MET in this run: {}", missing.join(", ")))
 }

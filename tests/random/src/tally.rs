@@ -44,6 +44,16 @@ impl Tally {
         self.formats.extend(met.format);
     }
 
+    /// How many comparisons there were.
+    pub fn count(&self) -> u64 {
+        self.outcomes.values().sum()
+    }
+
+    /// How many of them met an outcome.
+    pub fn met(&self, outcome: Outcome) -> u64 {
+        self.outcomes.get(&outcome).copied().unwrap_or(0)
+    }
+
     /// How many comparisons there were, and how many of them passed and were
     /// refused with each number.
     pub fn line(&self, name: &str) -> String {
@@ -51,7 +61,7 @@ impl Tally {
             (self.outcomes.iter()).partition(|(outcome, _)| matches!(outcome, Outcome::Refused(_)));
         let mut line = format!(
             "{name:10} {:6} compared: {}; {}",
-            self.outcomes.values().sum::<u64>(),
+            self.count(),
             counted("passed", &passed),
             counted("refused", &refused)
         );
@@ -63,8 +73,8 @@ impl Tally {
 
     /// Those of the outcomes that no comparison met.
     pub fn missing(&self, outcomes: &[Outcome]) -> Vec<Outcome> {
-        let met = |outcome: &Outcome| self.outcomes.contains_key(outcome);
-        outcomes.iter().copied().filter(|o| !met(o)).collect()
+        let missing = |outcome: &Outcome| self.met(*outcome) == 0;
+        outcomes.iter().copied().filter(missing).collect()
     }
 }
 
