@@ -85,11 +85,14 @@ pub record Answer : Type 0 where
   pub number : ℕ
   pub format : Format
 
+abbrev pub refused : ℕ → Answer
+refused number = record { number = number; format = none }
+
 abbrev pub answerOf : Found → Answer
 answerOf (Record r) = record { number = passed; format = r }
-answerOf NoFormat = record { number = badFormat; format = none }
+answerOf NoFormat = refused badFormat
 
 abbrev pub lookedUp : ℕ → Answer
 lookedUp f =
     if isFormat f then record { number = passed; format = formatOf f }
-    else record { number = badFormat; format = none }
+    else refused badFormat

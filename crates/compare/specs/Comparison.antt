@@ -48,16 +48,16 @@ equal = record { number = passed; same = true; count = 0; first = 0 }
 abbrev pub unequal : ℕ → ℕ → Answer
 unequal count first = record { number = passed; same = false; count = count; first = first }
 
-abbrev pub refusal : ℕ → Answer
-refusal number = record { number = number; same = false; count = 0; first = 0 }
+abbrev pub refused : ℕ → Answer
+refused number = record { number = number; same = false; count = 0; first = 0 }
 
 abbrev pub answerOf : Comparison → Answer
 answerOf Same = equal
 answerOf (Differ count first) = unequal count first
-answerOf (Refused number) = refusal number
+answerOf (Refused number) = refused number
 
 abbrev pub compared : ℕ → List ℕ → List ℕ → Answer
 compared f a b =
-    if not (eqb (compareNumber f a b) passed) then refusal (compareNumber f a b)
+    if not (eqb (compareNumber f a b) passed) then refused (compareNumber f a b)
     else if eqb (differing a b) 0 then equal
     else unequal (differing a b) (firstPlace a b)

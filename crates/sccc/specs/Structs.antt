@@ -28,15 +28,15 @@ stepStruct s = record { number = s .number; systematic = s .systematic; parity =
 abbrev pub positionStruct : interleaver.Answer → Interleaved
 positionStruct a = record { number = a .number; position = a .position }
 
-abbrev pub refusedRange : ℕ → SectionRange
-refusedRange number = record { number = number; start = 0; length = 0 }
+abbrev pub refused : ℕ → SectionRange
+refused number = record { number = number; start = 0; length = 0 }
 
 -- the section at a place begins at place × 8100
 abbrev pub rangeStruct : List ℕ → ℕ → SectionRange
 rangeStruct labels place =
     if eqb (sectionNumber labels place) passed
     then record { number = passed; start = place * acm.symbols; length = acm.symbols }
-    else refusedRange (sectionNumber labels place)
+    else refused (sectionNumber labels place)
 
 abbrev pub comparisonStruct : compare.Answer → Comparison
 comparisonStruct a = record { number = a .number; same = if a .same then 1 else 0; count = a .count; first = a .first }

@@ -9,8 +9,8 @@ ghost use Rattle.interleaver.specs.Interleaver.{interleavedAt, refused as refus
 ghost use Rattle.interleaver.specs.Provenance.{provenanceAt};
 ghost use Rattle.encoder.specs.Calls.{encodeNumber, encodeWorkspace, encodeOutput, labelsNumber, labelsOutput};
 ghost use Rattle.framing.specs.Calls.{frameNumber, frameOutput};
-ghost use Rattle.compare.specs.Comparison.{compared, refusal};
-ghost use Rattle.sccc.specs.Structs.{infoStruct, stepStruct, positionStruct, rangeStruct, refusedRange, comparisonStruct};
+ghost use Rattle.compare.specs.Comparison.{compared, refused as refusedComparison};
+ghost use Rattle.sccc.specs.Structs.{infoStruct, stepStruct, positionStruct, rangeStruct, refused as refusedRange, comparisonStruct};
 use acm::Found;
 use bits::checks;
 use interleaver::Source;
@@ -216,7 +216,7 @@ pub struct Comparison {
 
 impl Comparison {
     fn refused(number: u8) -> Self
-        ensures { λ r. ⌜ r ≡ comparisonStruct (refusal number) ⌝ }
+        ensures { λ r. ⌜ r ≡ comparisonStruct (refusedComparison number) ⌝ }
     {
         Comparison {
             number: number as u64,

@@ -31,14 +31,14 @@ stateNumber x = 2 * x .0 + x .1
 abbrev pub stateOf : ℕ → State
 stateOf s = (s / 2, s % 2)
 
-abbrev pub refusedStep : Stepped
-refusedStep = record { number = badElement; systematic = 0; parity = 0; state = 0 }
+abbrev pub refused : Stepped
+refused = record { number = badElement; systematic = 0; parity = 0; state = 0 }
 
 abbrev pub stepped : ℕ → ℕ → Stepped
 stepped s u =
     if leb s 3 && leb u 1
     then record { number = passed; systematic = u; parity = parity (stateOf s) u; state = stateNumber (next (stateOf s) u) }
-    else refusedStep
+    else refused
 
 -- A run from a state over a list of bits: each bit and its parity in turn, the parities alone, and the state that it ends in.
 abbrev pub run : State → List ℕ → List ℕ

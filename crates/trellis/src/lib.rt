@@ -1,6 +1,6 @@
 // The four-state trellis of both encoders (4.2, 6): a step, and the two steps that terminate it.
 ghost use mathlib.Core.Path.{_≡_};
-ghost use Rattle.trellis.specs.Trellis.{stepped, refusedStep, terminationOf};
+ghost use Rattle.trellis.specs.Trellis.{stepped, refused, terminationOf};
 
 pub mod steps;
 
@@ -35,7 +35,7 @@ pub fn step(state: u64, bit: u64) -> Stepped
 }
 
 fn refused() -> Stepped
-    ensures { λ r. ⌜ r ≡ refusedStep ⌝ }
+    ensures { λ r. ⌜ r ≡ refused ⌝ }
 {
     Stepped {
         number: bits::checks::ELEMENT,
