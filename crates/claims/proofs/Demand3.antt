@@ -21,11 +21,12 @@ use Rattle.interleaver.specs.Interleaver.{π}
 use Rattle.interleaver.proofs.Formats.{π-permutes}
 use Rattle.inner.specs.Registers.{interleaved}
 use Rattle.mapping.specs.Labels.{labels}
+use Rattle.mapping.proofs.Rows.{label-low, labels-long, label-at}
+use Rattle.mapping.proofs.Xor.{labels-xor}
 use Rattle.encoder.specs.Codeword.{codeword}
 use Rattle.encoder.proofs.Codewords.{codeword-length, codeword-bits}
-use Rattle.mapping.proofs.Xor.{labels-xor}
 use Rattle.encoder.proofs.Linear.{codeword-sum}
-use Rattle.claims.specs.Demand3.{Block, OneWhereDiffer, blockLabels, Linear, Linearity, Termination, Demand3}
+use Rattle.claims.specs.Demand3.{Block, OneWhereDiffer, blockLabels, Linear, Wholeness, Linearity, Termination, Demand3}
 
 -- of two bits, the sum is one exactly where they differ
 one-where-differ : (x y : ℕ) → x ≤ 1 → y ≤ 1 → (x ⊕ y ≡ 1) ↔ (x ≡ y → ⊥)
@@ -78,6 +79,18 @@ module _ (f : ℕ) (h : isFormat f ≡ true) (a b : List ℕ) (A : Block f a) (B
         label-numbers = numbers;
       }
 
+wholeness : Wholeness
+wholeness f h block B =
+    let m = formatOf f .m in
+    let w = codeword f block in
+    let bits = codeword-bits f h block (B .bits) in
+    record {
+      codeword-long = codeword-length f h block;
+      codeword-bits = bits;
+      labels-long = labels-long m w;
+      labels-low = (λ r l. rw (label-at m w r l) (label-low m w r bits));
+    }
+
 linearity : Linearity
 linearity f h a b c A B C d =
     let sum = is-sum (formatOf f .k) a b c (A .long) (B .long) (C .long) (legal-at 1 a (A .bits)) (legal-at 1 b (B .bits)) (legal-at 1 c (C .bits)) d in
@@ -87,4 +100,4 @@ termination : Termination
 termination f h block B = (terminated-ends block, terminated-ends (interleaved (formatOf f) (π f) (outer block)))
 
 pub demand3 : Demand3
-demand3 = record { linearity = linearity; termination = termination; permutation = π-permutes }
+demand3 = record { wholeness = wholeness; linearity = linearity; termination = termination; permutation = π-permutes }

@@ -3,7 +3,7 @@ use mathlib.Core.Path.{_≡_}
 use mathlib.Core.Bool.{true}
 use mathlib.Core.List.{List}
 use mathlib.Core.Logic.{_↔_}
-use Prim.Native.Nat.{ℕ, _<_}
+use Prim.Native.Nat.{ℕ, _^_, _<_}
 use lib.Bits.{bitXor}
 use lib.ListN.{length, getD}
 use Rattle.bits.specs.Legal.{allBits}
@@ -29,6 +29,17 @@ OneWhereDiffer n a b c = (k : ℕ) → k < n → (getD c k 0 ≡ 1) ↔ (getD a 
 abbrev pub blockLabels : ℕ → List ℕ → List ℕ
 blockLabels f block = labels (formatOf f .m) (codeword f block)
 
+-- the codeword of a block has N bits, all of them ones and zeros, and its labels are 8,100 numbers of m bits: every place that is spoken of
+-- below is there
+pub record Whole (f : ℕ) (block : List ℕ) : Type 0 where
+  pub codeword-long : length (codeword f block) ≡ formatOf f .n
+  pub codeword-bits : allBits (codeword f block) ≡ true
+  pub labels-long : length (blockLabels f block) ≡ symbols
+  pub labels-low : (r : ℕ) → r < symbols → getD (blockLabels f block) r 0 < 2 ^ (formatOf f .m)
+
+abbrev pub Wholeness : Type 0
+Wholeness = (f : ℕ) → isFormat f ≡ true → (block : List ℕ) → Block f block → Whole f block
+
 module _ (f : ℕ) (a b c : List ℕ) where
   -- linearity of the codeword and of the labels, the latter bit by bit, bit j weighing 2^j, and as an exclusive or of numbers
   pub record Linear : Type 0 where
@@ -53,6 +64,7 @@ abbrev pub Permutation : Type 0
 Permutation = (f : ℕ) → isFormat f ≡ true → Permutes (formatOf f .i) (π f)
 
 pub record Demand3 : Type 0 where
+  pub wholeness : Wholeness
   pub linearity : Linearity
   pub termination : Termination
   pub permutation : Permutation

@@ -1,7 +1,7 @@
 -- Labels, a column at a time: what one more column makes of them, their bounds and their places.
 use mathlib.Core.Path.{_≡_, refl, sym, ap, _∙_}
 use mathlib.Core.Bool.{true}
-use mathlib.Core.List.{List, [], _∷_, _++_, append-assoc}
+use mathlib.Core.List.{List, [], _∷_, _++_, append-nil, append-assoc}
 use Prim.Native.Nat.{ℕ, zero, suc, _+_, _*_, _^_, _≤_, _<_}
 use native.Mathlib.Nat.{pow-suc, add-zero}
 use native.Mathlib.Numerals.{add-one}
@@ -100,6 +100,10 @@ unfolding labels
 labels-get m codeword rest r h =
     let z : 0 + r ≡ r = omega arith in
     labels-at m codeword 0 symbols rest r h ∙ ap (label m codeword) z
+
+pub label-at : (m : ℕ) (codeword : List ℕ) (r : ℕ) → r < symbols → getD (labels m codeword) r 0 ≡ label m codeword r
+label-at m codeword r h =
+    ap (λ (l : List ℕ). getD l r 0) (sym (append-nil (labels m codeword))) ∙ labels-get m codeword [] r h
 
 -- what column c, lent, and the labels of c bits before it are like; n is 8,100 as the code computes it
 module _ (c m n : ℕ) (codeword out rest : List ℕ) (bits : allBits codeword ≡ true) (low : c < m) (high : m ≤ 8) (long : length codeword ≡ symbols * m)

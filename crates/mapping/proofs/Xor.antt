@@ -1,7 +1,7 @@
 -- The labels of a sum are the exclusive or of the labels.
 use mathlib.Core.Path.{_≡_, refl, sym, ap, ap₂, _∙_}
 use mathlib.Core.Bool.{true}
-use mathlib.Core.List.{List, [], _∷_, append-nil}
+use mathlib.Core.List.{List, [], _∷_}
 use Prim.Native.Nat.{ℕ, zero, suc, _+_, _*_, _^_, _≤_, _<_}
 use native.Mathlib.Omega.{arith}
 use borrow.Author.Tests.{le-leb}
@@ -14,7 +14,7 @@ use Rattle.bits.proofs.Legal.{legal-at, legal-head, legal-tail}
 use Rattle.bits.proofs.Sums.{⊕*-at}
 use Rattle.acm.specs.Formats.{symbols}
 use Rattle.mapping.specs.Labels.{rowFrom, label, labels}
-use Rattle.mapping.proofs.Rows.{labels-get}
+use Rattle.mapping.proofs.Rows.{label-at}
 
 -- bits into a number: packing commutes with the exclusive or
 xor-of-bits : (x y : ℕ) → x ≤ 1 → y ≤ 1 → bitXor x y ≡ x ⊕ y
@@ -56,9 +56,6 @@ module _ (m : ℕ) (a b : List ℕ) (e : length a ≡ length b) (ha : allBits a 
       ap (value 2) (row-sum a b e r m)
       ∙ value-xor (rowFrom a r m) (rowFrom b r m) (row-length a r m ∙ sym (row-length b r m)) (row-bits a ha r m) (row-bits b hb r m)
 
-  at : (l : List ℕ) → getD (labels m l) r 0 ≡ label m l r
-  at l = ap (λ (k : List ℕ). getD k r 0) (sym (append-nil (labels m l))) ∙ labels-get m l [] r h
-
   -- label r of a sum
   pub labels-xor : getD (labels m (a ⊕* b)) r 0 ≡ bitXor (getD (labels m a) r 0) (getD (labels m b) r 0)
-  labels-xor = at (a ⊕* b) ∙ label-xor ∙ ap₂ bitXor (sym (at a)) (sym (at b))
+  labels-xor = label-at m (a ⊕* b) r h ∙ label-xor ∙ ap₂ bitXor (sym (label-at m a r h)) (sym (label-at m b r h))
