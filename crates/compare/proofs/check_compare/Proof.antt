@@ -11,23 +11,30 @@ use Rattle.compare.specs.Comparison.{compareNumber}
 use Rattle.compare.proofs.check_compare.Statement.{statement}
 use Rattle.compare.proofs.check_compare.Tie as tie
 
-known : (c : tie.After-enum-told) → isFormat (c .before .before .before .before .before .args .format) ≡ true
+-- the start, from where the format is known to be one; and that place, from the first scan
+abbrev start : tie.After-enum-told → tie.Start
+start c = c .before .before .before .before .before
+
+abbrev told : tie.After-all-at-most → tie.After-enum-told
+told c = c .before .before .before .before
+
+known : (c : tie.After-enum-told) → isFormat (start c .args .format) ≡ true
 known c =
     let l = c .before .before in
-    found (l .before .before .before .args .format) _ (ap answerOf (sym (c .enum-told .given .1)) ∙ l .lookup .ensures) .0
+    found (start c .args .format) _ (ap answerOf (sym (c .enum-told .given .1)) ∙ l .lookup .ensures) .0
 
 legal-a : (c : tie.After-all-at-most)
     → c .all-at-most .result
-    ≡ allAtMost (topLabel (c .before .before .before .before .before .before .before .before .before .args .format)) (c .before .before .before .before .before .before .before .before .before .args .a .now)
+    ≡ (let a = start (told c) .args in allAtMost (topLabel (a .format)) (a .a .now))
 legal-a c =
-    let a = c .before .before .before .before .before .before .before .before .before .args in
+    let a = start (told c) .args in
     c .all-at-most .ensures ∙ ap (λ (top : ℕ). allAtMost top (a .a .now)) (c .before .top-label .ensures)
 
 legal-b : (c : tie.After-all-at-most2)
     → c .all-at-most2 .result
-    ≡ allAtMost (topLabel (c .before .before .before .before .before .before .before .before .before .before .before .args .format)) (c .before .before .before .before .before .before .before .before .before .before .before .args .b .now)
+    ≡ (let a = start (told (c .before .before)) .args in allAtMost (topLabel (a .format)) (a .b .now))
 legal-b c =
-    let a = c .before .before .before .before .before .before .before .before .before .before .before .args in
+    let a = start (told (c .before .before)) .args in
     c .all-at-most2 .ensures ∙ ap (λ (top : ℕ). allAtMost top (a .b .now)) (c .before .before .before .top-label .ensures)
 
 lookup-requires : tie.Need-lookup-requires

@@ -19,17 +19,24 @@ use Rattle.encoder.proofs.Codewords.{outer-long}
 use Rattle.encoder.proofs.encode.Statement.{statement}
 use Rattle.encoder.proofs.encode.Tie as tie
 
+-- the start, from the check; and where the outer bits are written, from the call that reads them
+abbrev start : tie.After-check-encode → tie.Start
+start k = k .before .before .before .before
+
+abbrev written : tie.After-encode-arg2 → tie.After-outer
+written c = c .before .before .before .before
+
 -- what a call that has passed knows of its arguments, and how many outer bits are kept
 module _ (c : tie.Else1) where
-  passed-of : (let a = c .before .before .before .before .before .args in EncodePassed (a .format) (a .block .now) (length (a .work .now)) (length (a .out .now)))
+  passed-of : (let a = start (c .before) .args in EncodePassed (a .format) (a .block .now) (length (a .work .now)) (length (a .out .now)))
   passed-of = encode-passed _ _ _ _ (sym (c .before .check-encode .ensures) ∙ c .if1 .left)
 
-  long-of : (let a = c .before .before .before .before .before .args in length (outer (a .block .now)) ≡ formatOf (a .format) .i)
-  long-of = outer-long _ (passed-of .known) (c .before .before .before .before .before .args .block .now) (passed-of .long)
+  long-of : (let a = start (c .before) .args in length (outer (a .block .now)) ≡ formatOf (a .format) .i)
+  long-of = outer-long _ (passed-of .known) (start (c .before) .args .block .now) (passed-of .long)
 
 -- a refused call's number is not 0
 refused : (c : tie.Then1)
-    → (let a = c .before .before .before .before .before .args in encodeNumber (a .format) (a .block .now) (length (a .work .now)) (length (a .out .now)) ≡ passed → ⊥)
+    → (let a = start (c .before) .args in encodeNumber (a .format) (a .block .now) (length (a .work .now)) (length (a .out .now)) ≡ passed → ⊥)
 refused c e = c .if1 .taken (c .before .check-encode .ensures ∙ e)
 
 check-encode-requires : tie.Need-check-encode-requires
@@ -45,14 +52,14 @@ outer-requires : tie.Need-outer-requires
 outer-requires c κs =
     let d = c .before in
     let p = passed-of d in
-    let f = d .before .before .before .before .before .args .format in
+    let f = start (d .before) .args .format in
     (omega (arith, p .long, format-sound f (p .known) .even), omega (arith, long-of d, p .work-fits))
 
 encode-requires : tie.Need-encode-requires
 encode-requires c κs =
-    let d = c .before .before .before .before .before .before in
-    let p = passed-of d in
-    (p .known, omega (arith, c .before .before .before .before .outer .kept .1 .0, p .work-fits), p .out-fits)
+    let w = written c in
+    let p = passed-of (w .before .before) in
+    (p .known, omega (arith, w .outer .kept .1 .0, p .work-fits), p .out-fits)
 
 same-length : tie.Need-same-length
 same-length c = search needs
@@ -63,11 +70,12 @@ same-length-2 c = search needs
 returns-2 : tie.Need-returns-2
 unfolding encodeWorkspace encodeOutput codeword
 returns-2 c =
-    let d = c .before .before .before .before .before .before .before .before .before in
-    let a = d .before .before .before .before .before .args in
+    let w = written (c .before .before .before) in
+    let d = w .before .before in
+    let a = start (d .before) .args in
     let p = passed-of d in
     let e = sym (d .before .check-encode .ensures) ∙ d .if1 .left in
-    let work = c .before .before .before .before .before .before .before .outer .ensures in (
+    let work = w .outer .ensures in (
       sym e,
       (
         work ∙ ap (λ (n : ℕ). outer (a .block .now) ++ drop n (a .work .now)) (long-of d) ∙ when-passed _ _ _ e,

@@ -11,16 +11,23 @@ use Rattle.framing.specs.Calls.{frameNumber}
 use Rattle.framing.proofs.check_frame.Statement.{statement}
 use Rattle.framing.proofs.check_frame.Tie as tie
 
-known : (c : tie.After-enum-told) → isFormat (c .before .before .before .before .args .format) ≡ true
+-- the start, from where the format is known to be one; and that place, from the scan
+abbrev start : tie.After-enum-told → tie.Start
+start c = c .before .before .before .before
+
+abbrev told : tie.After-all-at-most → tie.After-enum-told
+told c = c .before .before .before
+
+known : (c : tie.After-enum-told) → isFormat (start c .args .format) ≡ true
 known c =
     let l = c .before .before in
-    found (l .before .before .args .format) _ (ap answerOf (sym (c .enum-told .given .1)) ∙ l .lookup .ensures) .0
+    found (start c .args .format) _ (ap answerOf (sym (c .enum-told .given .1)) ∙ l .lookup .ensures) .0
 
 legal : (c : tie.After-all-at-most)
     → c .all-at-most .result
-    ≡ allAtMost (topLabel (c .before .before .before .before .before .before .before .args .format)) (c .before .before .before .before .before .before .before .args .labels .now)
+    ≡ (let a = start (told c) .args in allAtMost (topLabel (a .format)) (a .labels .now))
 legal c =
-    let a = c .before .before .before .before .before .before .before .args in
+    let a = start (told c) .args in
     c .all-at-most .ensures ∙ ap (λ (top : ℕ). allAtMost top (a .labels .now)) (c .before .top-label .ensures)
 
 lookup-requires : tie.Need-lookup-requires

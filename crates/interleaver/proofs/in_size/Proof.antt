@@ -34,16 +34,16 @@ load-requires c κs =
     (s .pre .0, (narrow s, narrow s))
 
 array-share-prefix-alpha : tie.Need-array-share-prefix-alpha
-array-share-prefix-alpha c = omega (arith, narrow (c .before .before .before .before .before))
+array-share-prefix-alpha c = omega (arith, narrow (start (c .before .before)))
 
 slice-aggregate-interleaved : tie.Need-slice-aggregate-interleaved
-slice-aggregate-interleaved c = simp length-take (omega (arith, narrow (c .before .before .before .before .before .before)))
+slice-aggregate-interleaved c = simp length-take (omega (arith, narrow (start (c .before .before .before))))
 
 array-share-prefix-beta : tie.Need-array-share-prefix-beta
-array-share-prefix-beta c = omega (arith, narrow (c .before .before .before .before .before .before))
+array-share-prefix-beta c = omega (arith, narrow (start (c .before .before .before)))
 
 slice-aggregate-interleaved-2 : tie.Need-slice-aggregate-interleaved-2
-slice-aggregate-interleaved-2 c = simp length-take (omega (arith, narrow (c .before .before .before .before .before .before .before)))
+slice-aggregate-interleaved-2 c = simp length-take (omega (arith, narrow (start (c .before .before .before .before))))
 
 interleaved-requires : tie.Need-interleaved-requires
 interleaved-requires c κs =

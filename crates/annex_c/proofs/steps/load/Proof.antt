@@ -17,7 +17,8 @@ slice-aggregate-load-from-3 c = search needs
 load-from-requires : tie.Need-load-from-requires
 unfolding sizes
 load-from-requires c κs =
-    (record { W = refl; α = refl; β = refl }, c .before .before .before .before .before .before .before .pre)
+    let lent = c .before .before .before .before in
+    (record { W = refl; α = refl; β = refl }, lent .before .before .before .pre)
 
 same-length : tie.Need-same-length
 same-length c = search needs

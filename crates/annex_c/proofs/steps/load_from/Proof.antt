@@ -57,8 +57,9 @@ same-length-2 c = search needs
 
 returns : tie.Need-returns
 returns c =
-    let l = c .before .before .before .before .before .before .before .before .before in
-    let e = c .before .before .before .before .copy .ensures in
+    let k = c .before .before .before .before in
+    let l = k .before .before .before .before .before in
+    let e = k .copy .ensures in
     (copied (start l .args .alpha .now) (α l) (e .0), copied (start l .args .beta .now) (β l) (e .1))
 
 pub load-from-spec : {M : Type 1} → statement M

@@ -42,8 +42,15 @@ module _ (c : tie.After-load) where
   β : take (told .parameters .result .w) (c .load .last .1 .1 .0) ≡ sizeOf (formatOf (start told .args .format) .w) .β
   β = front-β _ (sized told) (c .load .last .1 .1 .0) _ (c .load .ensures .1) ∙ ap (λ (w : ℕ). sizeOf w .β) (w-is told)
 
-pat : (c : tie.After-write-arg) → c .before .before .before .before .pattern .result ≡ pattern (formatOf (c .before .before .before .before .before .before .before .before .before .before .before .before .before .args .format) .survivors)
-pat c = c .before .before .before .before .pattern .ensures ∙ ap (λ (r : Format). pattern (r .survivors)) (c .before .before .before .before .before .before .before .before .before .before .parameters .ensures)
+-- the vectors, and the pattern, from where the pattern is made and from the call that is lent them
+abbrev loaded : tie.After-pattern → tie.After-load
+loaded p = p .before .before .before
+
+abbrev patterned : tie.After-write-arg → tie.After-pattern
+patterned c = c .before .before .before .before
+
+pat : (p : tie.After-pattern) → p .pattern .result ≡ pattern (formatOf (start (told (loaded p)) .args .format) .survivors)
+pat p = p .pattern .ensures ∙ ap (λ (r : Format). pattern (r .survivors)) (told (loaded p) .parameters .ensures)
 
 parameters-requires : tie.Need-parameters-requires
 parameters-requires c κs = c .before .before .pre .0
@@ -63,34 +70,36 @@ pattern-requires : tie.Need-pattern-requires
 pattern-requires c κs = search needs
 
 array-share-prefix-alpha : tie.Need-array-share-prefix-alpha
-array-share-prefix-alpha c = omega (arith, narrow (c .before .before .before .before .before .before))
+array-share-prefix-alpha c = omega (arith, narrow (told (loaded c)))
 
 slice-aggregate-write : tie.Need-slice-aggregate-write
-slice-aggregate-write c = simp length-take (omega (arith, narrow (c .before .before .before .before .before .before .before)))
+slice-aggregate-write c = simp length-take (omega (arith, narrow (told (loaded (c .before)))))
 
 array-share-prefix-beta : tie.Need-array-share-prefix-beta
-array-share-prefix-beta c = omega (arith, narrow (c .before .before .before .before .before .before .before))
+array-share-prefix-beta c = omega (arith, narrow (told (loaded (c .before))))
 
 slice-aggregate-write-2 : tie.Need-slice-aggregate-write-2
-slice-aggregate-write-2 c = simp length-take (omega (arith, narrow (c .before .before .before .before .before .before .before .before)))
+slice-aggregate-write-2 c = simp length-take (omega (arith, narrow (told (loaded (c .before .before)))))
 
 slice-aggregate-write-3 : tie.Need-slice-aggregate-write-3
 slice-aggregate-write-3 c = search needs
 
 write-requires : tie.Need-write-requires
 write-requires c κs =
-    let l = c .before .before .before .before .before .before .before in
-    let s = c .before .before .before .before .before .before .before .before .before .before .before .before .before in
-    lent-of (s .args .format) (s .pre .0) (c .before .before .before .before .before .before .before .before .before .before .parameters .ensures) (α l) (β l) (pat c) (s .args .work .now) (s .args .out .now) (s .pre .1) (s .pre .2)
+    let p = patterned c in
+    let l = loaded p in
+    let s = start (told l) in
+    lent-of (s .args .format) (s .pre .0) (told l .parameters .ensures) (α l) (β l) (pat p) (s .args .work .now) (s .args .out .now) (s .pre .1) (s .pre .2)
 
 same-length : tie.Need-same-length
 same-length c = search needs
 
 returns : tie.Need-returns
 returns c =
-    let l = c .before .before .before .before .before .before .before .before .before .before in
-    let s = c .before .before .before .before .before .before .before .before .before .before .before .before .before .before .before .before in
-    c .before .before .write .ensures ∙ written-is (s .args .format) (s .pre .0) (c .before .before .before .before .before .before .before .before .before .before .before .before .before .parameters .ensures) (α l) (β l) (s .args .work .now) (s .args .out .now) (s .pre .2)
+    let w = c .before .before in
+    let l = loaded (patterned (w .before)) in
+    let s = start (told l) in
+    w .write .ensures ∙ written-is (s .args .format) (s .pre .0) (told l .parameters .ensures) (α l) (β l) (s .args .work .now) (s .args .out .now) (s .pre .2)
 
 pub encode-spec : {M : Type 1} → statement M
 encode-spec =

@@ -23,18 +23,30 @@ Inv-loop alpha beta pattern work out₀ total delta x0₀ x1₀ upper₀ lower�
 abbrev μ-loop : tie.MeasureT-loop
 μ-loop alpha beta pattern work out₀ total delta x0₀ x1₀ upper₀ lower₀ counter₀ i₀ out x0 x1 upper lower counter i = total - i
 
+-- the places that a need looks back to: the start, from the loop; a turn's beginning, from the position's number; and from later calls the
+-- calls before them
+abbrev start : tie.At-loop Inv-loop μ-loop → tie.Start Inv-loop μ-loop
+start l = l .before .before .before .before .before .before
+
+abbrev turn : tie.After-number Inv-loop μ-loop → tie.In-loop Inv-loop μ-loop
+turn n = n .before .before
+
+abbrev numbered : tie.After-put-marked Inv-loop μ-loop → tie.After-number Inv-loop μ-loop
+numbered u = u .before .before .before .before
+
+abbrev marked : tie.After-parity Inv-loop μ-loop → tie.After-put-marked Inv-loop μ-loop
+marked y = y .before .before .before .before
+
 -- the registers have room
 fits : (l : tie.At-loop Inv-loop μ-loop)
-    → (let a = l .before .before .before .before .before .before .args in a .f .s + length (lower (a .f .i) (a .f .delta) (readFrom (permuted (a .alpha .now) (a .beta .now)) (a .work .now) 0 (a .f .i))) ≤ length (a .out .now))
-fits l =
-    let s = l .before .before .before .before .before .before in
-    omega (arith, s .pre .lower-long, s .pre .room)
+    → (let a = start l .args in a .f .s + length (lower (a .f .i) (a .f .delta) (readFrom (permuted (a .alpha .now) (a .beta .now)) (a .work .now) 0 (a .f .i))) ≤ length (a .out .now))
+fits l = omega (arith, start l .pre .lower-long, start l .pre .room)
 
 -- at the end, for two more bits each
 rooms : (c : tie.After-terminate Inv-loop μ-loop) → (let l = c .before .before in (l .loop .upper + 1 < length (l .loop .out)) × (l .loop .lower + 1 < length (l .loop .out)))
 rooms c =
     let l = c .before .before in
-    let a = l .before .before .before .before .before .before .args in
+    let a = start l .args in
     end-room _ _ (a .pattern .now) (a .out .now) _ _ _ (l .loop .out) (l .loop .x0, l .loop .x1) _ _ _ (l .loop .i) (c .before .loop-test .left) (c .terminate .ensures) (l .loop .inv .2) (fits l)
 
 loop-holds : tie.Need-loop-holds Inv-loop μ-loop
@@ -46,7 +58,7 @@ loop-holds c =
 
 interleaved-requires : tie.Need-interleaved-requires Inv-loop μ-loop
 interleaved-requires c κs =
-    let s = c .before .before .before .before .before .before .before in
+    let s = start (c .before) in
     (s .pre .vectors, omega (arith, s .pre .size))
 
 number-requires : tie.Need-number-requires Inv-loop μ-loop
@@ -54,26 +66,28 @@ number-requires c κs = search needs
 
 shared-slice-read-u : tie.Need-shared-slice-read-u Inv-loop μ-loop
 shared-slice-read-u c =
-    let s = c .before .before .before .before .before .before .before .before .before .before in
-    omega (arith, c .before .number .ensures, c .before .before .interleaved .ensures .1, s .pre .size, s .pre .outer-bits)
+    let n = c .before in
+    let s = start (turn n .before) in
+    omega (arith, n .number .ensures, n .before .interleaved .ensures .1, s .pre .size, s .pre .outer-bits)
 
 shared-slice-read-put-marked : tie.Need-shared-slice-read-put-marked Inv-loop μ-loop
 shared-slice-read-put-marked c =
-    let s = c .before .before .before .before .before .before .before .before .before .before .before in
+    let s = start (turn (c .before .before) .before) in
     omega (arith, ap length (s .pre .pattern-is), pattern-length (s .args .f .survivors))
 
 put-marked-requires : tie.Need-put-marked-requires Inv-loop μ-loop
 put-marked-requires c κs =
-    let l = c .before .before .before .before .before .before in
-    let s = l .before .before .before .before .before .before in
+    let n = c .before .before .before in
+    let l = turn n .before in
+    let s = start l in
     let a = s .args in
-    let at = c .before .before .before .number .ensures ∙ c .before .before .before .before .interleaved .ensures .0 in
-    (rw (s .pre .pattern-is) (pattern-low (a .f .survivors) _), upper-room _ _ (a .pattern .now) (a .out .now) _ _ _ (l .loop .out) (l .loop .x0, l .loop .x1) _ _ _ (l .loop .i) (c .before .before .before .before .before .loop-test .taken) at refl refl refl (l .loop .inv .2) (fits l))
+    let at = n .number .ensures ∙ n .before .interleaved .ensures .0 in
+    (rw (s .pre .pattern-is) (pattern-low (a .f .survivors) _), upper-room _ _ (a .pattern .now) (a .out .now) _ _ _ (l .loop .out) (l .loop .x0, l .loop .x1) _ _ _ (l .loop .i) (turn n .loop-test .taken) at refl refl refl (l .loop .inv .2) (fits l))
 
 rate-match-requires : tie.Need-rate-match-requires Inv-loop μ-loop
 rate-match-requires c κs =
-    let l = c .before .before .before .before .before .before .before .before .before in
-    let s = l .before .before .before .before .before .before in
+    let l = turn (numbered (c .before .before)) .before in
+    let s = start l in
     (omega (arith, s .pre .deletes), omega (arith, l .loop .inv .1, s .pre .size, s .pre .vectors .narrow))
 
 parity-requires : tie.Need-parity-requires Inv-loop μ-loop
@@ -81,11 +95,13 @@ parity-requires c κs = search needs
 
 put-requires : tie.Need-put-requires Inv-loop μ-loop
 put-requires c κs =
-    let l = c .before .before .before .before .before .before .before .before .before .before .before .before in
-    let a = l .before .before .before .before .before .before .args in
-    let at = c .before .before .before .before .before .before .before .before .before .number .ensures ∙ c .before .before .before .before .before .before .before .before .before .before .interleaved .ensures .0 in
-    lower-room _ _ (a .pattern .now) (a .out .now) _ _ _ (l .loop .out) (l .loop .x0, l .loop .x1) _ _ _ (l .loop .i) (c .before .before .before .before .before .before .before .before .before .before .before .loop-test .taken) at refl refl refl (l .loop .inv .2) (fits l)
-    (c .before .before .before .before .before .put-marked .ensures .0) (c .before .before .before .before .before .put-marked .ensures .1)
+    let u = marked (c .before) in
+    let n = numbered u in
+    let l = turn n .before in
+    let a = start l .args in
+    let at = n .number .ensures ∙ n .before .interleaved .ensures .0 in
+    lower-room _ _ (a .pattern .now) (a .out .now) _ _ _ (l .loop .out) (l .loop .x0, l .loop .x1) _ _ _ (l .loop .i) (turn n .loop-test .taken) at refl refl refl (l .loop .inv .2) (fits l)
+    (u .put-marked .ensures .0) (u .put-marked .ensures .1)
 
 next-requires : tie.Need-next-requires Inv-loop μ-loop
 next-requires c κs = search needs
@@ -98,14 +114,17 @@ loop-less c = search needs
 
 loop-again : tie.Need-loop-again Inv-loop μ-loop
 loop-again c =
-    let l = c .before .before .before .before .before .before .before .before .before .before .before .before .before .before .before .before in
-    let s = l .before .before .before .before .before .before in
-    let at = c .before .before .before .before .before .before .before .before .before .before .before .before .before .number .ensures ∙ c .before .before .before .before .before .before .before .before .before .before .before .before .before .before .interleaved .ensures .0 in
-    let m = c .before .before .before .before .before .before .rate-match .ensures in (
-      omega (arith, c .before .before .before .before .before .before .before .before .before .before .before .before .before .before .before .loop-test .taken),
+    let y = c .before .before .before .before .before in
+    let u = marked y in
+    let n = numbered u in
+    let l = turn n .before in
+    let s = start l in
+    let at = n .number .ensures ∙ n .before .interleaved .ensures .0 in
+    let m = y .before .rate-match .ensures in (
+      omega (arith, turn n .loop-test .taken),
       rw m (counter-low (s .args .f .i) (s .args .f .delta) (l .loop .counter) (omega (arith, s .pre .deletes)) (l .loop .inv .1)),
-      rw m (going-turn _ _ (s .args .pattern .now) (s .args .out .now) _ _ _ (l .loop .out) (l .loop .x0, l .loop .x1) _ _ _ (l .loop .i) (c .before .before .before .before .before .before .before .before .before .before .before .before .before .before .before .loop-test .taken) at refl (c .next .ensures) (c .before .before .before .before .before .parity .ensures) (l .loop .inv .2) (fits l)
-          (c .before .before .before .before .before .before .before .before .before .put-marked .ensures .0) (c .before .before .before .before .before .before .before .before .before .put-marked .ensures .1) (rw m at (c .before .before .before .put .ensures .0)) (c .before .before .before .put .ensures .1)),
+      rw m (going-turn _ _ (s .args .pattern .now) (s .args .out .now) _ _ _ (l .loop .out) (l .loop .x0, l .loop .x1) _ _ _ (l .loop .i) (turn n .loop-test .taken) at refl (c .next .ensures) (y .parity .ensures) (l .loop .inv .2) (fits l)
+          (u .put-marked .ensures .0) (u .put-marked .ensures .1) (rw m at (c .before .before .before .put .ensures .0)) (c .before .before .before .put .ensures .1)),
     )
 
 terminate-requires : tie.Need-terminate-requires Inv-loop μ-loop
@@ -134,7 +153,7 @@ same-length c = simp length-set (c .before .before .loop .inv .2 .same)
 
 returns : tie.Need-returns Inv-loop μ-loop
 returns c =
-    let s = c .before .before .before .before .before .before .before .before in
+    let s = start (c .before .before) in
     let a = s .args in
     let π = permuted (a .alpha .now) (a .beta .now) in
     let bits = readFrom π (a .work .now) 0 (a .f .i) in

@@ -83,7 +83,9 @@ returns-3 c =
     no-format _ _ _ _ (r .before .before .place .ensures) (rest-is r) (f .before .before .before .place2 .ensures) (sym (c .enum-told .given .1) ∙ f .read-field .ensures)
 
 slice-aggregate-read-field-2 : tie.Need-slice-aggregate-read-field-2
-slice-aggregate-read-field-2 c = sym (length-take-le _ _ (feed-most (c .before .before .before .before .before .before .before)))
+slice-aggregate-read-field-2 c =
+    let f = c .before .before .before .before in
+    sym (length-take-le _ _ (feed-most (f .before .before .before)))
 
 read-field-requires-2 : tie.Need-read-field-requires-2
 read-field-requires-2 c κs = search needs

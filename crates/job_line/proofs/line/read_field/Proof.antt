@@ -10,8 +10,12 @@ use Rattle.job_line.proofs.Fields.{Spelled, a-field, no-field}
 use Rattle.job_line.proofs.line.read_field.Statement.{statement}
 use Rattle.job_line.proofs.line.read_field.Tie as tie
 
+-- the start, from where the tests of one digit meet again
+abbrev start : tie.Joined3 → tie.Start
+start j = j .before .before .before .before .before
+
 -- what the tests have shown
-spelled : (c : tie.Else5) → Spelled (c .before .before .before .before .before .before .before .args .text .now)
+spelled : (c : tie.Else5) → Spelled (start (c .before .before) .args .text .now)
 spelled c =
     let j = c .before .before in
     record {

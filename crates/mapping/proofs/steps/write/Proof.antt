@@ -18,6 +18,13 @@ Inv-loop m codeword out₀ c₀ out c = (c ≤ m) × (length out ≡ length out�
 abbrev μ-loop : tie.MeasureT-loop
 μ-loop m codeword out₀ c₀ out c = m - c
 
+-- the first store and the start, from the loop
+abbrev cleared : tie.At-loop Inv-loop μ-loop → tie.After-clear Inv-loop μ-loop
+cleared l = l .before .before .before
+
+abbrev start : tie.At-loop Inv-loop μ-loop → tie.Start Inv-loop μ-loop
+start l = cleared l .before .before .before .before
+
 clear-requires : tie.Need-clear-requires Inv-loop μ-loop
 clear-requires c κs = search needs
 
@@ -49,9 +56,9 @@ part-append-end c = search needs
 append-requires : tie.Need-append-requires Inv-loop μ-loop
 append-requires c κs =
     let l = c .before .before .before in
-    let s = l .before .before .before .before .before .before .before in
+    let s = start l in
     column-asks (l .loop .c) (s .args .m) (l .loop .c * symbols + symbols - l .loop .c * symbols) (s .args .codeword .now) (l .loop .out) _ (s .pre .2) (c .before .before .loop-test .taken) (s .pre .0) (s .pre .1)
-    (omega arith) (l .loop .inv .2) (omega (arith, l .loop .inv .1, l .before .before .before .clear .kept, s .pre .3))
+    (omega arith) (l .loop .inv .2) (omega (arith, l .loop .inv .1, cleared l .clear .kept, s .pre .3))
 
 add-c : tie.Need-add-c Inv-loop μ-loop
 add-c c = search needs
@@ -61,11 +68,12 @@ loop-less c = search needs
 
 loop-again : tie.Need-loop-again Inv-loop μ-loop
 loop-again c =
-    let l = c .before .before .before .before .before .before in
-    let s = l .before .before .before .before .before .before .before in (
+    let b = c .before .before .before .before .before in
+    let l = b .before in
+    let s = start l in (
       omega arith,
       c .before .before .append .kept .1 .0 ∙ l .loop .inv .1,
-      column-gives (l .loop .c) (s .args .m) (l .loop .c * symbols + symbols - l .loop .c * symbols) (s .args .codeword .now) (l .loop .out) _ (s .pre .2) (c .before .before .before .before .before .loop-test .taken) (s .pre .0) (s .pre .1)
+      column-gives (l .loop .c) (s .args .m) (l .loop .c * symbols + symbols - l .loop .c * symbols) (s .args .codeword .now) (l .loop .out) _ (s .pre .2) (b .loop-test .taken) (s .pre .0) (s .pre .1)
           (omega arith) (l .loop .inv .2) (c .before .before .append .ensures),
     )
 
@@ -75,11 +83,11 @@ same-length c = search needs
 returns : tie.Need-returns Inv-loop μ-loop
 returns c =
     let l = c .before in
-    let s = l .before .before .before .before .before .before .before in
+    let s = start l in
     let o = s .args .out .now in
-    let e = l .before .before .before .clear .ensures in
+    let e = cleared l .clear .ensures in
     let all : l .loop .c ≡ s .args .m = omega arith in
-    let kept : drop symbols (l .before .before .before .clear .last .0) ≡ drop symbols o =
+    let kept : drop symbols (cleared l .clear .last .0) ≡ drop symbols o =
     ap (drop symbols) e ∙ drop-at (replicate symbols 0) (drop symbols o) symbols (length-replicate {A = ℕ} symbols 0) in
     l .loop .inv .2 ∙ ap₂ (λ (a b : List ℕ). a ++ b) (ap (λ (k : ℕ). labels k (s .args .codeword .now)) all) kept
 

@@ -14,34 +14,41 @@ use Rattle.row.proofs.Rows.{block-length, encoded}
 use Rattle.row.proofs.steps.encoded_ones.Statement.{statement}
 use Rattle.row.proofs.steps.encoded_ones.Tie as tie
 
+-- the start, from where the block is put; and that place, from the call that encodes it
+abbrev start : tie.After-put-block → tie.Start
+start c = c .before .before .before .before .before
+
+abbrev put : tie.After-encode → tie.After-put-block
+put c = c .before .before .before .before .before .before
+
 -- the first K bytes are the block
 module _ (c : tie.After-put-block) where
-  filled : (let a = c .before .before .before .before .before .args in c .put-block .last .1 .0 ≡ block (a .pattern) (a .f .k))
+  filled : (let a = start c .args in c .put-block .last .1 .0 ≡ block (a .pattern) (a .f .k))
   filled =
-      let s = c .before .before .before .before .before in
+      let s = start c in
       c .put-block .ensures ∙ ap (block (s .args .pattern)) (length-take-le _ _ (s .pre .2))
 
-  long : length (c .put-block .last .1 .0) ≡ c .before .before .before .before .before .args .f .k
+  long : length (c .put-block .last .1 .0) ≡ start c .args .f .k
   long = ap length filled ∙ block-length _ _
 
-  room : (let a = c .before .before .before .before .before .args in a .f .k ≤ length (c .put-block .last .1 .0 ++ drop (a .f .k) (a .block .now)))
+  room : (let a = start c .args in a .f .k ≤ length (c .put-block .last .1 .0 ++ drop (a .f .k) (a .block .now)))
   room =
-      let a = c .before .before .before .before .before .args in
+      let a = start c .args in
       omega (arith, length-append (c .put-block .last .1 .0) (drop (a .f .k) (a .block .now)), long)
 
-  lent : (let a = c .before .before .before .before .before .args in take (a .f .k) (c .put-block .last .1 .0 ++ drop (a .f .k) (a .block .now)) ≡ block (a .pattern) (a .f .k))
+  lent : (let a = start c .args in take (a .f .k) (c .put-block .last .1 .0 ++ drop (a .f .k) (a .block .now)) ≡ block (a .pattern) (a .f .k))
   lent = take-at _ _ _ long ∙ filled
 
 -- and the first N of the output its codeword
 module _ (c : tie.After-encode) where
-  code-room : c .before .before .before .before .before .before .before .before .before .before .before .args .f .n ≤ length (c .encode .last .1 .1 .1 .0)
-  code-room = omega (arith, c .encode .kept .1 .1 .1 .0, c .before .before .before .before .before .before .before .before .before .before .before .pre .4)
+  code-room : start (put c) .args .f .n ≤ length (c .encode .last .1 .1 .1 .0)
+  code-room = omega (arith, c .encode .kept .1 .1 .1 .0, start (put c) .pre .4)
 
-  code-is : (let a = c .before .before .before .before .before .before .before .before .before .before .before .args in take (a .f .n) (c .encode .last .1 .1 .1 .0) ≡ codeword (a .format) (block (a .pattern) (a .f .k)))
+  code-is : (let a = start (put c) .args in take (a .f .n) (c .encode .last .1 .1 .1 .0) ≡ codeword (a .format) (block (a .pattern) (a .f .k)))
   code-is =
-      let s = c .before .before .before .before .before .before .before .before .before .before .before in
+      let s = start (put c) in
       let a = s .args in
-      ap (take (a .f .n)) (c .encode .ensures .1 .1 ∙ ap (λ (bits : List ℕ). encodeOutput (a .format) bits (a .work .now) (a .codeword .now)) (lent (c .before .before .before .before .before .before)))
+      ap (take (a .f .n)) (c .encode .ensures .1 .1 ∙ ap (λ (bits : List ℕ). encodeOutput (a .format) bits (a .work .now) (a .codeword .now)) (lent (put c)))
       ∙ encoded (a .format) (s .pre .0) (a .pattern) (a .work .now) (a .codeword .now) (s .pre .1) (s .pre .3) (s .pre .4)
 
 slice-relend-prefix-put-block : tie.Need-slice-relend-prefix-put-block
@@ -75,8 +82,8 @@ count-ones-requires c κs = search needs
 
 same-length : tie.Need-same-length
 same-length c =
-    let p = c .before .before .before .before .before .before .before .before .before .before .before .before in
-    let a = p .before .before .before .before .before .args in
+    let p = put (c .before .before .before .before .before .before) in
+    let a = start p .args in
     length-front (a .block .now) (p .put-block .last .1 .0) (a .f .k) (p .put-block .kept .1 .0)
 
 same-length-2 : tie.Need-same-length-2
