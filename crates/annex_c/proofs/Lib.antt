@@ -1,3 +1,2 @@
-pub mod Flats
 pub mod Sizes
 pub mod Test

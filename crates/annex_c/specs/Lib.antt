@@ -1,3 +1,2 @@
 pub mod AnnexC
-pub mod Flat
 pub mod Sizes

@@ -1,3 +1,1 @@
-// Annex C: the vectors α and β of the interleavers of 19 sizes.
-pub mod steps;
-mod tables;
+// No code: annex C's vectors are in specs/, and what holds of them in proofs/. The code's tables are annex_c_tables.

@@ -22,9 +22,9 @@ pub fn encode(format: u64, work: &[u8], out: &mut [u8])
 {
     let f = acm::steps::parameters(format);
     let w = f.w;
-    let mut alpha = [0u16; annex_c::steps::WIDEST];
-    let mut beta = [0u8; annex_c::steps::WIDEST];
-    annex_c::steps::load(w, &mut alpha, &mut beta);
+    let mut alpha = [0u16; annex_c_tables::steps::WIDEST];
+    let mut beta = [0u8; annex_c_tables::steps::WIDEST];
+    annex_c_tables::steps::load(w, &mut alpha, &mut beta);
     let pattern = puncture::pattern(f.survivors);
     write(f, &alpha[..w], &beta[..w], &pattern, work, out);
 }

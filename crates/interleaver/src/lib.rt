@@ -53,9 +53,9 @@ fn in_size(w: usize, position: UpperPosition) -> InterleavedPosition
     requires { ⌜ position .0 < M * w ⌝ }
     ensures { λ r. ⌜ r .0 ≡ permuted (sizeOf w .α) (sizeOf w .β) (position .0) ⌝ }
 {
-    let mut alpha = [0u16; annex_c::steps::WIDEST];
-    let mut beta = [0u8; annex_c::steps::WIDEST];
-    annex_c::steps::load(w, &mut alpha, &mut beta);
+    let mut alpha = [0u16; annex_c_tables::steps::WIDEST];
+    let mut beta = [0u8; annex_c_tables::steps::WIDEST];
+    annex_c_tables::steps::load(w, &mut alpha, &mut beta);
     steps::interleaved(&alpha[..w], &beta[..w], position)
 }
 
@@ -76,7 +76,7 @@ pub fn provenance(format: u64) -> Source
     let Found::Record(entry) = acm::lookup(format) else {
         return Source::NoFormat;
     };
-    if annex_c::steps::stand_in(entry.w) {
+    if annex_c_tables::steps::stand_in(entry.w) {
         return Source::StandIn;
     }
     Source::Published

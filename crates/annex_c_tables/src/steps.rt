@@ -1,12 +1,12 @@
-// Opened to the interleaver and the encoder alone.
+// Opened to the interleaver and the inner encoder alone.
 ghost use mathlib.Core.Path.{_≡_};
 ghost use mathlib.Core.Bool.{true};
 ghost use mathlib.Core.List.{_++_};
 ghost use Prim.Native.Nat.{_^_, _≤_, _<_};
 ghost use lib.ListN.{length, drop};
 ghost use Rattle.bits.specs.Place.{place};
 ghost use Rattle.annex_c.specs.AnnexC.{isSize, sizeOf};
-ghost use Rattle.annex_c.specs.Flat.{Tables, rowsBefore};
+ghost use Rattle.annex_c_tables.specs.Flat.{Tables, rowsBefore};
 use crate::tables;
 
 // W of the largest size: the room that any size's vectors take.

@@ -5,8 +5,8 @@ use borrow.Author.Needs.{needs}
 use lib.ListN.{length, drop, drop-of-length-le}
 use Rattle.bits.proofs.Fill.{Left, left-start, left-as, left-store, left-end}
 use Rattle.bits.proofs.Lists.{drop-next}
-use Rattle.annex_c.proofs.steps.copy.Statement.{statement}
-use Rattle.annex_c.proofs.steps.copy.Tie as tie
+use Rattle.annex_c_tables.proofs.steps.copy.Statement.{statement}
+use Rattle.annex_c_tables.proofs.steps.copy.Tie as tie
 
 abbrev Inv-loop : tie.InvT-loop
 Inv-loop alphas betas alpha₀ beta₀ j₀ alpha beta j =

@@ -12,11 +12,11 @@ use Rattle.bits.specs.Place.{place}
 use Rattle.bits.proofs.Cases.{by-cases}
 use Rattle.bits.proofs.Lists.{drop-next}
 use Rattle.bits.proofs.Table.{left-true, right-true, every}
 use Rattle.annex_c.specs.Sizes.{Size, sizes}
 use Rattle.annex_c.specs.AnnexC.{among, find, isSize, sizeOf}
-use Rattle.annex_c.specs.Flat.{Tables, widths, flat, rowsBefore}
+use Rattle.annex_c_tables.specs.Flat.{Tables, widths, flat, rowsBefore}
 use Rattle.annex_c.proofs.Sizes.{α-rows, β-rows}
 use Rattle.annex_c.proofs.Test.{Sound, test, tested, test-sound}
 
 -- what one more width says of the rest
 module _ (w : ℕ) (l : List ℕ) (k : ℕ) (h : k < length l) where

@@ -1,9 +1,9 @@
 -- The flag at the size's number is the size's.
 use borrow.Author.Needs.{needs}
 use Rattle.annex_c.specs.Sizes.{sizes}
-use Rattle.annex_c.proofs.Flats.{rows-fit, size-inside, stand-in-at}
-use Rattle.annex_c.proofs.steps.stand_in.Statement.{statement}
-use Rattle.annex_c.proofs.steps.stand_in.Tie as tie
+use Rattle.annex_c_tables.proofs.Flats.{rows-fit, size-inside, stand-in-at}
+use Rattle.annex_c_tables.proofs.steps.stand_in.Statement.{statement}
+use Rattle.annex_c_tables.proofs.steps.stand_in.Tie as tie
 
 slice-aggregate-locate : tie.Need-slice-aggregate-locate
 slice-aggregate-locate c = search needs

@@ -2,10 +2,10 @@
 use mathlib.Core.Path.{refl}
 use native.Mathlib.Omega.{arith}
 use borrow.Author.Needs.{needs}
 use Rattle.annex_c.specs.AnnexC.{sizeOf}
-use Rattle.annex_c.proofs.Flats.{Part, α-from, β-from, copied}
-use Rattle.annex_c.proofs.steps.load_from.Statement.{statement}
-use Rattle.annex_c.proofs.steps.load_from.Tie as tie
+use Rattle.annex_c_tables.proofs.Flats.{Part, α-from, β-from, copied}
+use Rattle.annex_c_tables.proofs.steps.load_from.Statement.{statement}
+use Rattle.annex_c_tables.proofs.steps.load_from.Tie as tie
 
 module _ (c : tie.After-locate) where
   abbrev start : tie.Start

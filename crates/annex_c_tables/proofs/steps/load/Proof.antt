@@ -1,9 +1,9 @@
 -- The constants are the flat tables of annex C's sizes.
 use mathlib.Core.Path.{refl}
 use borrow.Author.Needs.{needs}
 use Rattle.annex_c.specs.Sizes.{sizes}
-use Rattle.annex_c.proofs.steps.load.Statement.{statement}
-use Rattle.annex_c.proofs.steps.load.Tie as tie
+use Rattle.annex_c_tables.proofs.steps.load.Statement.{statement}
+use Rattle.annex_c_tables.proofs.steps.load.Tie as tie
 
 slice-aggregate-load-from : tie.Need-slice-aggregate-load-from
 slice-aggregate-load-from c = search needs

@@ -6,10 +6,10 @@ use borrow.Author.Needs.{needs}
 use lib.ListN.{length, drop, drop-of-length-le}
 use Rattle.bits.specs.Place.{place}
 use Rattle.bits.proofs.Places.{place-here, place-later, place-end}
-use Rattle.annex_c.specs.Flat.{rowsBefore}
-use Rattle.annex_c.proofs.Flats.{rows-here, rows-next}
-use Rattle.annex_c.proofs.steps.locate.Statement.{statement}
-use Rattle.annex_c.proofs.steps.locate.Tie as tie
+use Rattle.annex_c_tables.specs.Flat.{rowsBefore}
+use Rattle.annex_c_tables.proofs.Flats.{rows-here, rows-next}
+use Rattle.annex_c_tables.proofs.steps.locate.Statement.{statement}
+use Rattle.annex_c_tables.proofs.steps.locate.Tie as tie
 
 abbrev Inv-loop : tie.InvT-loop
 Inv-loop widths w sizes₀ rows₀ sizes rows =

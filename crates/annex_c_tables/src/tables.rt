@@ -1,6 +1,6 @@
 // Generated from data/annex-c.csv by `make tables`: edit that file, not this one.
 // Annex C (tables C-1 and C-2) as flat tables: the sizes in the order of the annex, each behind the one before.
-// specs/Sizes.antt has the same numbers for the contracts.
+// The lists of annex_c, in its specs/Sizes.antt, have the same numbers for the contracts.
 
 // How many sizes there are.
 pub const SIZES: usize = 19;
