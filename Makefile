@@ -1,12 +1,13 @@
 # make            prove every crate, build the programs and run them
-# make test       all tests; the last step is `rt ci`, from nothing and with the must-fail edits
+# make bench      prove and build bench, and no more than it is made of
+# make test       the gate: `rt ci`, from nothing and with the must-fail edits, then every test of what it has built
+# make tests      the tests alone, on what is proved
 # make lib        build/libsccc.a and build/libsccc.so
 # make speed      time the library's calls beside a plain encoder's
 # make tables     write annex C's tables anew from data/annex-c.csv, and the expected output that rests on them
 # make expected   write the test programs' expected output anew, by the separately written encoder
 # Each installs what it needs and the machine lacks, or says in a line what to install.
-.PHONY: all test lib speed tables expected oracle packages
-.NOTPARALLEL:
+.PHONY: all bench test tests library-tests other-tests lib speed tables expected oracle packages
 
 oracle = tests/oracle/target/release/oracle
 cargo_flags = --quiet --release --offline --manifest-path
@@ -25,22 +26,36 @@ all:
 	@tools/packages rt
 	rt check
 
+bench:
+	@tools/packages rt
+	rt check bench
+
 # What is lacking is found before anything is proved.
-test: packages oracle lib
+test: packages
+	tests/gate
+
+# The two halves need nothing of each other, so they run side by side.
+tests: packages
+	$(MAKE) --no-print-directory oracle
+	rt check bench
+	$(MAKE) --no-print-directory lib
+	$(MAKE) --no-print-directory --output-sync=target -j2 library-tests other-tests
+
+library-tests:
+	tests/c/run
+	$(PYTHON) tests/python/test_sccc.py
+	tests/examples/run
+	tests/bench-lines
+
+other-tests:
 	tools/annex-c-tables --check
 	$(oracle) self-check
 	tests/expected --check
 	tests/annex-c-rows
 	tests/readme
-	tests/c/run
-	$(PYTHON) tests/python/test_sccc.py
-	tests/examples/run
 	for crate in $(rust_tests); do cargo test --all-targets $(cargo_flags) $$crate || exit 1; done
 	$(build) tests/random/Cargo.toml
 	tests/random/target/release/random --seconds $(random_seconds)
-	rt check bench
-	tests/bench-lines
-	rt ci
 
 lib:
 	@tools/packages rt cc
