@@ -1,4 +1,4 @@
--- The count is at most the elements passed.
+-- The count is at most the place, and the places are within the list.
 use mathlib.Core.Logic.{⊎-elim}
 use Prim.Native.Nat.{_-_, _≤_}
 use native.Mathlib.Omega.{arith}
@@ -8,16 +8,22 @@ use Rattle.testkit.proofs.changed.Statement.{statement}
 use Rattle.testkit.proofs.changed.Tie as tie
 
 abbrev Inv-loop : tie.InvT-loop
-Inv-loop list count₀ i₀ count i = (i ≤ length list) × (count ≤ i)
+Inv-loop list from to end count₀ i₀ count i = (end ≤ length list) × (count ≤ i)
 
 abbrev μ-loop : tie.MeasureT-loop
-μ-loop list count₀ i₀ count i = length list - i
+μ-loop list from to end count₀ i₀ count i = end - i
+
+least-requires : tie.Need-least-requires Inv-loop μ-loop
+least-requires c κs = search needs
 
 loop-holds : tie.Need-loop-holds Inv-loop μ-loop
 loop-holds c = search needs
 
 shared-slice-read-if1 : tie.Need-shared-slice-read-if1 Inv-loop μ-loop
 shared-slice-read-if1 c = search needs
+
+cast-if1 : tie.Need-cast-if1 Inv-loop μ-loop
+cast-if1 c = search needs
 
 add-count : tie.Need-add-count Inv-loop μ-loop
 add-count c = search needs
@@ -40,8 +46,10 @@ changed-spec =
     (tie.spec
     Inv-loop
     μ-loop
+    least-requires
     loop-holds
     shared-slice-read-if1
+    cast-if1
     add-count
     add-i
     loop-less

@@ -1,4 +1,4 @@
--- The count is at most the elements passed.
+-- The count is at most the place, and the places are within the list.
 use mathlib.Core.Logic.{⊎-elim}
 use Prim.Native.Nat.{_-_, _≤_}
 use native.Mathlib.Omega.{arith}
@@ -8,10 +8,13 @@ use Rattle.testkit.proofs.changed_slots.Statement.{statement}
 use Rattle.testkit.proofs.changed_slots.Tie as tie
 
 abbrev Inv-loop : tie.InvT-loop
-Inv-loop list count₀ i₀ count i = (i ≤ length list) × (count ≤ i)
+Inv-loop list from to end count₀ i₀ count i = (end ≤ length list) × (count ≤ i)
 
 abbrev μ-loop : tie.MeasureT-loop
-μ-loop list count₀ i₀ count i = length list - i
+μ-loop list from to end count₀ i₀ count i = end - i
+
+least-requires : tie.Need-least-requires Inv-loop μ-loop
+least-requires c κs = search needs
 
 loop-holds : tie.Need-loop-holds Inv-loop μ-loop
 loop-holds c = search needs
@@ -46,6 +49,7 @@ changed-slots-spec =
     (tie.spec
     Inv-loop
     μ-loop
+    least-requires
     loop-holds
     mul-if1
     shared-slice-read-if1
