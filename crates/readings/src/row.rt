@@ -2,7 +2,7 @@
 use libc::STDOUT_FILENO;
 use std::num::wrapping_add_usize;
 
-// The letter is 0 at the start of a row. The numbers are the last six, the last of them in f.
+// The letter is 0 at the start of a row. The numbers are the last six, the last of them in f; the word counts as a number too, which no call uses.
 pub(crate) struct Row {
     pub letter: u8,
     pub a: usize,
@@ -59,7 +59,10 @@ fn first(letter: u8, byte: u8) -> u8 {
     if letter == 0 { byte } else { letter }
 }
 
-// The number with one digit more, for every number below 2^64.
+// Above a tenth of 2^64.
+const TENTH: usize = 1844674407370955162;
+
+// The number with one digit more, right for every number below 2^64. The digits' codes are 48 to 57.
 fn longer(n: usize, digit: u8) -> usize {
-    wrapping_add_usize(n % 1844674407370955162 * 10, digit as usize % 16)
+    wrapping_add_usize(n % TENTH * 10, digit as usize % 16)
 }
