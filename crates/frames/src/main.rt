@@ -3,9 +3,9 @@ use framing::FRAME_LABELS;
 use framing::FRAME_LENGTH;
 use libc::STDOUT_FILENO;
 use testkit::bytes;
-use testkit::digest_slots;
 use testkit::front;
 use testkit::front_mut;
+use testkit::least;
 use testkit::print_field;
 
 // Bits of the frame marker; those of the frame descriptor stand between it and the labels.
@@ -51,7 +51,7 @@ fn print_digests(labels: &[u8], slots: &[u16]) {
 fn put_sections(format: u64, labels: &mut [u8]) {
     let mut k: usize = 0;
     while k < FRAME_LABELS / acm::SYMBOLS {
-        put_labels(format, k, testkit::from_mut(labels, k * acm::SYMBOLS));
+        put_labels(format, k, from_mut(labels, k * acm::SYMBOLS));
         k += 1;
     }
 }
@@ -67,4 +67,26 @@ fn put_labels(format: u64, k: usize, out: &mut [u8]) {
     testkit::fill_seeded(2000 + 16 * (format % 100) + k as u64 % 16, &mut block);
     encoder::encode(format, front(&block, f.k), &mut work, &mut codeword);
     encoder::labels(format, front(&codeword, f.n), out);
+}
+
+// The elements from a place on, none where there are none.
+fn from_mut(list: &mut [u8], at: usize) -> &mut [u8] {
+    let k = least(at, list.len());
+    &mut list[k..]
+}
+
+// The digest of the slots from the place `from` up to the place `to`, of each only the bits that the mask has.
+fn digest_slots(list: &[u16], from: usize, to: usize, mask: u16) -> u64 {
+    let end = least(to, list.len());
+    let mut d: u64 = 1;
+    let mut i = from;
+    while i < end {
+        d = testkit::mixed(d, wide_slot(list[i] & mask));
+        i += 1;
+    }
+    d
+}
+
+fn wide_slot(x: u16) -> u64 {
+    x as u64
 }

@@ -1,11 +1,12 @@
 // encode and labels, in format 1: K is 5,758, I 8,640, N 16,200.
+use crate::buffers::print_changed;
+use crate::buffers::set_last;
 use crate::row::Row;
 use testkit::UNTOUCHED;
 use testkit::bytes;
 use testkit::front;
 use testkit::front_mut;
 use testkit::print_field;
-use testkit::set_last;
 
 const I: usize = 8640;
 
@@ -25,8 +26,8 @@ pub(crate) fn encode(row: Row) {
         front_mut(&mut out, row.f),
     );
     print_field(number as u64);
-    testkit::print_changed(&work, I);
-    testkit::print_changed(&out, N);
+    print_changed(&work, I);
+    print_changed(&out, N);
 }
 
 pub(crate) fn labels(row: Row) {
@@ -39,5 +40,5 @@ pub(crate) fn labels(row: Row) {
         front_mut(&mut out, row.f),
     );
     print_field(number as u64);
-    testkit::print_changed(&out, acm::SYMBOLS);
+    print_changed(&out, acm::SYMBOLS);
 }

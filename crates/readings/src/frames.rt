@@ -1,4 +1,8 @@
 // frame, section and compare, in format 1, whose labels are below 4.
+use crate::buffers::element;
+use crate::buffers::front_slots;
+use crate::buffers::print_changed_slots;
+use crate::buffers::set_last;
 use crate::row::Row;
 use acm::SYMBOLS;
 use compare::Comparison;
@@ -7,7 +11,6 @@ use testkit::UNTOUCHED;
 use testkit::bytes;
 use testkit::front;
 use testkit::print_field;
-use testkit::set_last;
 
 // Labels 0 but for the last, and a buffer of so many slots.
 pub(crate) fn frame(row: Row) {
@@ -17,10 +20,10 @@ pub(crate) fn frame(row: Row) {
     let number = framing::frame(
         row.c as u64,
         front(&labels, row.d),
-        testkit::front_slots(&mut slots, row.f),
+        front_slots(&mut slots, row.f),
     );
     print_field(number as u64);
-    testkit::print_changed_slots(&slots, FRAME_LENGTH);
+    print_changed_slots(&slots, FRAME_LENGTH);
 }
 
 // Labels 0 but for one place. The row has the number, the length of the part, and its first and last label.
@@ -34,8 +37,8 @@ fn print_section(place: u64, labels: &[u8]) {
     print_field(framing::section_number(labels, place) as u64);
     let part = framing::section(labels, place);
     print_field(part.len() as u64);
-    print_field(testkit::element(part, 0));
-    print_field(testkit::element(part, SYMBOLS - 1));
+    print_field(element(part, 0) as u64);
+    print_field(element(part, SYMBOLS - 1) as u64);
 }
 
 // Labels 0 but for the last, in the second list another value throughout. The row has the number, 1 for the same, the count and the first place.

@@ -2,6 +2,7 @@
 // document 01's "Readings to try" that are not proved, and every check of every call, each check alone and before the ones behind it.
 use libc::STDIN_FILENO;
 
+mod buffers;
 mod calls;
 mod encoding;
 mod frames;

@@ -1,5 +1,5 @@
-// What the test programs share: blocks to encode and digests to compare, as tests/oracle/src/digest.rs defines them, buffers that show what a
-// call changed, and fields to print.
+// What the test programs share: buffers, fields to print, and blocks to encode and digests to compare, as tests/oracle/src/digest.rs defines
+// them.
 ghost use mathlib.Core.Path.{_≡_};
 ghost use Prim.Native.Nat.{_≤_};
 ghost use lib.ListN.{length};
@@ -48,27 +48,12 @@ pub fn print_digest(list: &[u8], n: usize) {
     print_field(digest(front(list, n)));
 }
 
-// The digest of the slots from the place `from` up to the place `to`, of each only the bits that the mask has.
-pub fn digest_slots(list: &[u16], from: usize, to: usize, mask: u16) -> u64 {
-    let end = least(to, list.len());
-    let mut d: u64 = 1;
-    let mut i = from;
-    while i < end {
-        d = mixed(d, wide_slot(list[i] & mask));
-        i += 1;
-    }
-    d
-}
-
-fn mixed(d: u64, x: u64) -> u64 {
+// A digest with one element more.
+pub fn mixed(d: u64, x: u64) -> u64 {
     (d % 4294967291 * 1000003 + x % 65536 + 1) % 4294967291
 }
 
 fn wide(x: u8) -> u64 {
-    x as u64
-}
-
-fn wide_slot(x: u16) -> u64 {
     x as u64
 }
 
@@ -86,45 +71,6 @@ pub fn fill_seeded(seed: u64, out: &mut [u8]) {
 // The value that buffers are filled with before a call: no bit, no label and no slot of a frame.
 pub const UNTOUCHED: usize = 170;
 
-// How many of the first n bytes of a buffer a call has changed, and how many behind them.
-pub fn print_changed(list: &[u8], n: usize) {
-    print_field(changed(list, 0, n));
-    print_field(changed(list, n, list.len()));
-}
-
-// The same of 16-bit slots.
-pub fn print_changed_slots(list: &[u16], n: usize) {
-    print_field(changed_slots(list, 0, n));
-    print_field(changed_slots(list, n, list.len()));
-}
-
-// How many bytes from the place `from` up to the place `to` are changed.
-fn changed(list: &[u8], from: usize, to: usize) -> u64 {
-    let end = least(to, list.len());
-    let mut count: u64 = 0;
-    let mut i = from;
-    while i < end {
-        if list[i] != UNTOUCHED as u8 {
-            count += 1;
-        }
-        i += 1;
-    }
-    count
-}
-
-fn changed_slots(list: &[u16], from: usize, to: usize) -> u64 {
-    let end = least(to, list.len());
-    let mut count: u64 = 0;
-    let mut i = from;
-    while i < end {
-        if list[i] != UNTOUCHED as u16 {
-            count += 1;
-        }
-        i += 1;
-    }
-    count
-}
-
 // The first n elements, or all where there are fewer.
 pub fn front(list: &[u8], n: usize) -> &[u8] {
     let k = least(n, list.len());
@@ -136,36 +82,10 @@ pub fn front_mut(list: &mut [u8], n: usize) -> &mut [u8] {
     &mut list[..k]
 }
 
-pub fn front_slots(list: &mut [u16], n: usize) -> &mut [u16] {
-    let k = least(n, list.len());
-    &mut list[..k]
-}
-
-// The elements from a place on, none where there are none.
-pub fn from_mut(list: &mut [u8], at: usize) -> &mut [u8] {
-    let k = least(at, list.len());
-    &mut list[k..]
-}
-
-// The element at a place, 0 where there is none.
-pub fn element(list: &[u8], at: usize) -> u64 {
-    if at < list.len() {
-        return wide(list[at]);
-    }
-    0
-}
-
 // Sets the element at a place, if there is one.
 pub fn set(list: &mut [u8], at: usize, value: usize) {
     if at < list.len() {
         list[at] = (value % 256) as u8;
-    }
-}
-
-// Sets the last of the first n elements.
-pub fn set_last(list: &mut [u8], n: usize, value: usize) {
-    if 0 < n {
-        set(list, n - 1, value);
     }
 }
 

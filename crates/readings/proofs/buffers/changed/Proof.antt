@@ -4,8 +4,8 @@ use Prim.Native.Nat.{_-_, _≤_}
 use native.Mathlib.Omega.{arith}
 use borrow.Author.Needs.{needs}
 use lib.ListN.{length}
-use Rattle.testkit.proofs.changed.Statement.{statement}
-use Rattle.testkit.proofs.changed.Tie as tie
+use Rattle.readings.proofs.buffers.changed.Statement.{statement}
+use Rattle.readings.proofs.buffers.changed.Tie as tie
 
 abbrev Inv-loop : tie.InvT-loop
 Inv-loop list from to end count₀ i₀ count i = (end ≤ length list) × (count ≤ i)
