@@ -1,4 +1,7 @@
-// Prints document 01's listing: a line for each ACM format, from its record.
+// Prints document 01's listing: a line for each ACM format, from its record. Standard error has a line for each whose codewords are not the
+// standard's.
+use interleaver::Source;
+use libc::STDERR_FILENO;
 use libc::STDOUT_FILENO;
 
 fn main() {
@@ -6,6 +9,7 @@ fn main() {
     let mut format: u64 = 1;
     while format <= acm::LAST {
         print_line(format);
+        warn(format);
         format += 1;
     }
 }
@@ -26,4 +30,16 @@ fn print_line(format: u64) {
 fn print_field(n: usize) {
     io::write_all(STDOUT_FILENO, b",");
     io::print_decimal(STDOUT_FILENO, n as u64);
+}
+
+fn warn(format: u64) {
+    let Source::StandIn = interleaver::provenance(format) else {
+        return;
+    };
+    io::write_all(STDERR_FILENO, b"warning: format ");
+    io::print_decimal(STDERR_FILENO, format);
+    io::write_all(
+        STDERR_FILENO,
+        b": rows of its interleaver stand in for published ones, so its codewords are not the standard's\n",
+    );
 }

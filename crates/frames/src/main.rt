@@ -1,5 +1,22 @@
 // Prints, for five ACM formats, the digests of the frame marker, the frame descriptor, the labels of sixteen seeded blocks, and their frame.
+use framing::FRAME_LABELS;
+use framing::FRAME_LENGTH;
 use libc::STDOUT_FILENO;
+use testkit::bytes;
+use testkit::front;
+use testkit::front_mut;
+use testkit::least;
+use testkit::print_field;
+
+// Bits of the frame marker; those of the frame descriptor stand between it and the labels.
+const MARKER: usize = 256;
+
+const HEADER: usize = FRAME_LENGTH - FRAME_LABELS;
+
+// What counts of a slot: of a header's bit, 256 or 257, the last; else the whole.
+const LAST_BIT: u16 = 1;
+
+const WHOLE: u16 = 65535;
 
 fn main() {
     io::write_all(STDOUT_FILENO, b"format,marker,descriptor,labels,frame\n");
@@ -11,21 +28,30 @@ fn main() {
 }
 
 fn print_frame(format: u64) {
-    let mut labels = [0u8; 129600];
-    let mut slots = [0u16; 129920];
-    put_sections(format, &mut labels);
-    framing::frame(format, &labels, &mut slots);
+    let mut labels = bytes(0);
+    let mut slots = testkit::slots(0);
+    make_frame(format, front_mut(&mut labels, FRAME_LABELS), &mut slots);
+}
+
+fn make_frame(format: u64, labels: &mut [u8], slots: &mut [u16]) {
+    put_sections(format, labels);
+    framing::frame(format, labels, slots);
     io::print_decimal(STDOUT_FILENO, format);
-    print_header(&slots);
-    print_field(testkit::digest(&labels));
-    print_field(testkit::digest_slots(&slots));
-    io::write_all(STDOUT_FILENO, b"\n");
+    print_digests(labels, slots);
+}
+
+fn print_digests(labels: &[u8], slots: &[u16]) {
+    print_field(digest_slots(slots, 0, MARKER, LAST_BIT));
+    print_field(digest_slots(slots, MARKER, HEADER, LAST_BIT));
+    testkit::print_digest(labels, FRAME_LABELS);
+    print_field(digest_slots(slots, 0, FRAME_LENGTH, WHOLE));
+    testkit::end_row();
 }
 
 fn put_sections(format: u64, labels: &mut [u8]) {
     let mut k: usize = 0;
-    while k < 16 {
-        put_labels(format, k, testkit::from_mut(labels, k * acm::SYMBOLS));
+    while k < FRAME_LABELS / acm::SYMBOLS {
+        put_labels(format, k, from_mut(labels, k * acm::SYMBOLS));
         k += 1;
     }
 }
@@ -35,43 +61,32 @@ fn put_labels(format: u64, k: usize, out: &mut [u8]) {
     let acm::Found::Record(f) = acm::lookup(format) else {
         return;
     };
-    let mut block = [0u8; 43678];
-    let mut work = [0u8; 65520];
-    let mut codeword = [0u8; 48600];
+    let mut block = bytes(0);
+    let mut work = bytes(0);
+    let mut codeword = bytes(0);
     testkit::fill_seeded(2000 + 16 * (format % 100) + k as u64 % 16, &mut block);
-    encoder::encode(
-        format,
-        testkit::front(&block, f.k),
-        &mut work,
-        &mut codeword,
-    );
-    encoder::labels(format, testkit::front(&codeword, f.n), out);
+    encoder::encode(format, front(&block, f.k), &mut work, &mut codeword);
+    encoder::labels(format, front(&codeword, f.n), out);
 }
 
-// The marker's and the descriptor's bits, which the slots hold as 256 and 257.
-fn print_header(slots: &[u16]) {
-    let mut bits = [0u8; 320];
-    put_bits(slots, &mut bits);
-    print_field(testkit::digest(testkit::front(&bits, 256)));
-    print_field(testkit::digest(testkit::from(&bits, 256)));
+// The elements from a place on, none where there are none.
+fn from_mut(list: &mut [u8], at: usize) -> &mut [u8] {
+    let k = least(at, list.len());
+    &mut list[k..]
 }
 
-fn put_bits(slots: &[u16], bits: &mut [u8]) {
-    let mut i = 0;
-    while i < bits.len() {
-        bits[i] = bit_at(slots, i);
+// The digest of the slots from the place `from` up to the place `to`, of each only the bits that the mask has.
+fn digest_slots(list: &[u16], from: usize, to: usize, mask: u16) -> u64 {
+    let end = least(to, list.len());
+    let mut d: u64 = 1;
+    let mut i = from;
+    while i < end {
+        d = testkit::mixed(d, wide_slot(list[i] & mask));
         i += 1;
     }
+    d
 }
 
-fn bit_at(slots: &[u16], i: usize) -> u8 {
-    if i < slots.len() {
-        return (slots[i] % 256) as u8;
-    }
-    0
-}
-
-fn print_field(n: u64) {
-    io::write_all(STDOUT_FILENO, b",");
-    io::print_decimal(STDOUT_FILENO, n);
+fn wide_slot(x: u16) -> u64 {
+    x as u64
 }

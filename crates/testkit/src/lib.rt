@@ -1,8 +1,39 @@
-// Blocks to encode and digests to compare, as tests/oracle/src/digest.rs defines them. For the test programs alone.
+// What the test programs share: buffers, fields to print, and blocks to encode and digests to compare, as tests/oracle/src/digest.rs defines
+// them.
+ghost use mathlib.Core.Path.{_≡_};
 ghost use Prim.Native.Nat.{_≤_};
+ghost use lib.ListN.{length};
+use libc::STDOUT_FILENO;
+
+// Elements of a buffer: more than any list that a call takes.
+const ROOM: usize = 131072;
+
+// A buffer of one value. The contract gives its length alone: lending the array as a slice needs no more, and proofs are slow where they can
+// see so long a list.
+pub fn bytes(value: usize) -> [u8; ROOM]
+    ensures { λ r. ⌜ 131072 ≡ length r ⌝ }
+{
+    [(value % 256) as u8; ROOM]
+}
+
+pub fn slots(value: usize) -> [u16; ROOM]
+    ensures { λ r. ⌜ 131072 ≡ length r ⌝ }
+{
+    [(value % 65536) as u16; ROOM]
+}
+
+// The next field of a row.
+pub fn print_field(n: u64) {
+    io::write_all(STDOUT_FILENO, b",");
+    io::print_decimal(STDOUT_FILENO, n);
+}
+
+pub fn end_row() {
+    io::write_all(STDOUT_FILENO, b"\n");
+}
 
 // The digest of a list: from 1 on, d becomes (1000003 d + x + 1) modulo 4294967291 at each element x.
-pub fn digest(list: &[u8]) -> u64 {
+fn digest(list: &[u8]) -> u64 {
     let mut d: u64 = 1;
     let mut i = 0;
     while i < list.len() {
@@ -12,26 +43,17 @@ pub fn digest(list: &[u8]) -> u64 {
     d
 }
 
-// The same of 16-bit slots.
-pub fn digest_slots(list: &[u16]) -> u64 {
-    let mut d: u64 = 1;
-    let mut i = 0;
-    while i < list.len() {
-        d = mixed(d, wide_slot(list[i]));
-        i += 1;
-    }
-    d
+// The digest of the first n bytes, as a field.
+pub fn print_digest(list: &[u8], n: usize) {
+    print_field(digest(front(list, n)));
 }
 
-fn mixed(d: u64, x: u64) -> u64 {
+// A digest with one element more.
+pub fn mixed(d: u64, x: u64) -> u64 {
     (d % 4294967291 * 1000003 + x % 65536 + 1) % 4294967291
 }
 
 fn wide(x: u8) -> u64 {
-    x as u64
-}
-
-fn wide_slot(x: u16) -> u64 {
     x as u64
 }
 
@@ -46,64 +68,8 @@ pub fn fill_seeded(seed: u64, out: &mut [u8]) {
     }
 }
 
-// One value throughout.
-pub fn fill(value: u8, out: &mut [u8]) {
-    let mut i = 0;
-    while i < out.len() {
-        out[i] = value;
-        i += 1;
-    }
-}
-
-// Document 01's pattern 0 (all zeros), 1 (all ones) or 2 (a single one at place 0).
-pub fn fill_pattern(pattern: u64, out: &mut [u8]) {
-    if pattern == 1 {
-        fill(1, out);
-        return;
-    }
-    fill(0, out);
-    if pattern == 2 && 0 < out.len() {
-        out[0] = 1;
-    }
-}
-
-// Block number 0 to 5 of a format: the three patterns, and three seeded blocks.
-pub fn fill_block(number: u64, format: u64, out: &mut [u8]) {
-    if number < 3 {
-        fill_pattern(number, out);
-        return;
-    }
-    fill_seeded((number - 2) % 1000 * 1000 + format % 1000, out);
-}
-
 // The value that buffers are filled with before a call: no bit, no label and no slot of a frame.
-pub const UNTOUCHED: u8 = 170;
-
-// How many bytes of a buffer a call has changed.
-pub fn changed(list: &[u8]) -> u64 {
-    let mut count: u64 = 0;
-    let mut i = 0;
-    while i < list.len() {
-        if list[i] != UNTOUCHED {
-            count += 1;
-        }
-        i += 1;
-    }
-    count
-}
-
-// The same of 16-bit slots.
-pub fn changed_slots(list: &[u16]) -> u64 {
-    let mut count: u64 = 0;
-    let mut i = 0;
-    while i < list.len() {
-        if list[i] != UNTOUCHED as u16 {
-            count += 1;
-        }
-        i += 1;
-    }
-    count
-}
+pub const UNTOUCHED: usize = 170;
 
 // The first n elements, or all where there are fewer.
 pub fn front(list: &[u8], n: usize) -> &[u8] {
@@ -116,40 +82,10 @@ pub fn front_mut(list: &mut [u8], n: usize) -> &mut [u8] {
     &mut list[..k]
 }
 
-pub fn front_slots(list: &mut [u16], n: usize) -> &mut [u16] {
-    let k = least(n, list.len());
-    &mut list[..k]
-}
-
-// The elements from a place on, none where there are none.
-pub fn from(list: &[u8], at: usize) -> &[u8] {
-    let k = least(at, list.len());
-    &list[k..]
-}
-
-pub fn from_mut(list: &mut [u8], at: usize) -> &mut [u8] {
-    let k = least(at, list.len());
-    &mut list[k..]
-}
-
-// The element at a place, 0 where there is none.
-pub fn element(list: &[u8], at: usize) -> u64 {
+// Sets the element at a place, if there is one.
+pub fn set(list: &mut [u8], at: usize, value: usize) {
     if at < list.len() {
-        return wide(list[at]);
-    }
-    0
-}
-
-pub fn set(list: &mut [u8], at: usize, value: u8) {
-    if at < list.len() {
-        list[at] = value;
-    }
-}
-
-// Sets the last of the first n elements.
-pub fn set_last(list: &mut [u8], n: usize, value: u8) {
-    if 0 < n {
-        set(list, n - 1, value);
+        list[at] = (value % 256) as u8;
     }
 }
 

@@ -23,6 +23,9 @@ loop-holds c = search needs
 print-line-requires : tie.Need-print-line-requires Inv-loop μ-loop
 print-line-requires c κs = search needs
 
+warn-requires : tie.Need-warn-requires Inv-loop μ-loop
+warn-requires c κs = search needs
+
 add-format : tie.Need-add-format Inv-loop μ-loop
 add-format c = search needs
 
@@ -45,6 +48,7 @@ main-spec =
     write-all-requires
     loop-holds
     print-line-requires
+    warn-requires
     add-format
     loop-less
     loop-again

@@ -1,15 +1,18 @@
--- The loop ends past the last format.
-use Prim.Native.Nat.{suc, _-_, _≤_}
+-- The loop ends behind the last row: six blocks of each format.
+use Prim.Native.Nat.{ℕ, _*_, _-_, _≤_}
 use borrow.Author.Needs.{needs}
 use Rattle.acm.specs.Formats.{lastFormat}
 use Rattle.vectors.proofs.main.Statement.{statement}
 use Rattle.vectors.proofs.main.Tie as tie
 
+abbrev rows : ℕ
+rows = 6 * lastFormat
+
 abbrev Inv-loop : tie.InvT-loop
-Inv-loop format₀ format = format ≤ suc lastFormat
+Inv-loop row₀ row = row ≤ rows
 
 abbrev μ-loop : tie.MeasureT-loop
-μ-loop format₀ format = suc lastFormat - format
+μ-loop row₀ row = rows - row
 
 slice-aggregate-write-all : tie.Need-slice-aggregate-write-all Inv-loop μ-loop
 slice-aggregate-write-all c = search needs
@@ -20,11 +23,17 @@ write-all-requires c κs = search needs
 loop-holds : tie.Need-loop-holds Inv-loop μ-loop
 loop-holds c = search needs
 
-print-format-requires : tie.Need-print-format-requires Inv-loop μ-loop
-print-format-requires c κs = search needs
+mul-loop : tie.Need-mul-loop Inv-loop μ-loop
+mul-loop c = search needs
 
-add-format : tie.Need-add-format Inv-loop μ-loop
-add-format c = search needs
+add-print-row : tie.Need-add-print-row Inv-loop μ-loop
+add-print-row c = search needs
+
+print-row-requires : tie.Need-print-row-requires Inv-loop μ-loop
+print-row-requires c κs = search needs
+
+add-row : tie.Need-add-row Inv-loop μ-loop
+add-row c = search needs
 
 loop-less : tie.Need-loop-less Inv-loop μ-loop
 loop-less c = search needs
@@ -44,8 +53,10 @@ main-spec =
     slice-aggregate-write-all
     write-all-requires
     loop-holds
-    print-format-requires
-    add-format
+    mul-loop
+    add-print-row
+    print-row-requires
+    add-row
     loop-less
     loop-again
     returns)

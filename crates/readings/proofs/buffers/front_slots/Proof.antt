@@ -2,8 +2,8 @@
 use native.Mathlib.Omega.{arith}
 use borrow.Author.Needs.{needs}
 use lib.ListN.{length-take}
-use Rattle.testkit.proofs.front_slots.Statement.{statement}
-use Rattle.testkit.proofs.front_slots.Tie as tie
+use Rattle.readings.proofs.buffers.front_slots.Statement.{statement}
+use Rattle.readings.proofs.buffers.front_slots.Tie as tie
 
 least-requires : tie.Need-least-requires
 least-requires c κs = search needs

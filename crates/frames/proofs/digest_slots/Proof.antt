@@ -1,15 +1,18 @@
--- The loop goes through the list.
+-- The places are within the list.
 use Prim.Native.Nat.{_-_, _≤_}
 use borrow.Author.Needs.{needs}
 use lib.ListN.{length}
-use Rattle.testkit.proofs.digest_slots.Statement.{statement}
-use Rattle.testkit.proofs.digest_slots.Tie as tie
+use Rattle.frames.proofs.digest_slots.Statement.{statement}
+use Rattle.frames.proofs.digest_slots.Tie as tie
 
 abbrev Inv-loop : tie.InvT-loop
-Inv-loop list d₀ i₀ d i = i ≤ length list
+Inv-loop list from to mask end d₀ i₀ d i = end ≤ length list
 
 abbrev μ-loop : tie.MeasureT-loop
-μ-loop list d₀ i₀ d i = length list - i
+μ-loop list from to mask end d₀ i₀ d i = end - i
+
+least-requires : tie.Need-least-requires Inv-loop μ-loop
+least-requires c κs = search needs
 
 loop-holds : tie.Need-loop-holds Inv-loop μ-loop
 loop-holds c = search needs
@@ -44,6 +47,7 @@ digest-slots-spec =
     (tie.spec
     Inv-loop
     μ-loop
+    least-requires
     loop-holds
     mul-wide-slot
     shared-slice-read-wide-slot

@@ -1,23 +1,23 @@
--- The count is at most the elements passed.
+-- The count is at most the place, and the places are within the list.
 use mathlib.Core.Logic.{⊎-elim}
 use Prim.Native.Nat.{_-_, _≤_}
 use native.Mathlib.Omega.{arith}
 use borrow.Author.Needs.{needs}
 use lib.ListN.{length}
-use Rattle.testkit.proofs.changed_slots.Statement.{statement}
-use Rattle.testkit.proofs.changed_slots.Tie as tie
+use Rattle.readings.proofs.buffers.changed.Statement.{statement}
+use Rattle.readings.proofs.buffers.changed.Tie as tie
 
 abbrev Inv-loop : tie.InvT-loop
-Inv-loop list count₀ i₀ count i = (i ≤ length list) × (count ≤ i)
+Inv-loop list from to end count₀ i₀ count i = (end ≤ length list) × (count ≤ i)
 
 abbrev μ-loop : tie.MeasureT-loop
-μ-loop list count₀ i₀ count i = length list - i
+μ-loop list from to end count₀ i₀ count i = end - i
+
+least-requires : tie.Need-least-requires Inv-loop μ-loop
+least-requires c κs = search needs
 
 loop-holds : tie.Need-loop-holds Inv-loop μ-loop
 loop-holds c = search needs
-
-mul-if1 : tie.Need-mul-if1 Inv-loop μ-loop
-mul-if1 c = search needs
 
 shared-slice-read-if1 : tie.Need-shared-slice-read-if1 Inv-loop μ-loop
 shared-slice-read-if1 c = search needs
@@ -40,14 +40,14 @@ loop-again c = ⊎-elim (λ w. omega arith) (λ w. omega arith) (c .if1 .came)
 returns : tie.Need-returns Inv-loop μ-loop
 returns c = search needs
 
-pub changed-slots-spec : {M : Type 1} → statement M
-changed-slots-spec =
+pub changed-spec : {M : Type 1} → statement M
+changed-spec =
     tie.close
     (tie.spec
     Inv-loop
     μ-loop
+    least-requires
     loop-holds
-    mul-if1
     shared-slice-read-if1
     cast-if1
     add-count
