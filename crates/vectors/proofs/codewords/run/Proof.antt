@@ -2,8 +2,8 @@
 use Prim.Native.Nat.{ℕ, _*_, _-_, _≤_}
 use borrow.Author.Needs.{needs}
 use Rattle.acm.specs.Formats.{lastFormat}
-use Rattle.vectors.proofs.main.Statement.{statement}
-use Rattle.vectors.proofs.main.Tie as tie
+use Rattle.vectors.proofs.codewords.run.Statement.{statement}
+use Rattle.vectors.proofs.codewords.run.Tie as tie
 
 abbrev rows : ℕ
 rows = 6 * lastFormat
@@ -44,8 +44,8 @@ loop-again c = search needs
 returns : tie.Need-returns Inv-loop μ-loop
 returns c = search needs
 
-pub main-spec : {M : Type 1} → statement M
-main-spec =
+pub run-spec : {M : Type 1} → statement M
+run-spec =
     tie.close
     (tie.spec
     Inv-loop

@@ -1,4 +1,4 @@
-// Prints, for five ACM formats, the digests of the frame marker, the frame descriptor, the labels of sixteen seeded blocks, and their frame.
+// For five ACM formats, the digests of the frame marker, the frame descriptor, the labels of sixteen seeded blocks, and their frame.
 use framing::FRAME_LABELS;
 use framing::FRAME_LENGTH;
 use libc::STDOUT_FILENO;
@@ -18,7 +18,7 @@ const LAST_BIT: u16 = 1;
 
 const WHOLE: u16 = 65535;
 
-fn main() {
+pub(crate) fn run() {
     io::write_all(STDOUT_FILENO, b"format,marker,descriptor,labels,frame\n");
     print_frame(1);
     print_frame(7);

@@ -3,8 +3,8 @@ use mathlib.Core.Path.{_≡_}
 use Prim.Native.Nat.{_-_, _≤_}
 use borrow.Author.Needs.{needs}
 use lib.ListN.{length}
-use Rattle.frames.proofs.put_sections.Statement.{statement}
-use Rattle.frames.proofs.put_sections.Tie as tie
+use Rattle.vectors.proofs.frames.put_sections.Statement.{statement}
+use Rattle.vectors.proofs.frames.put_sections.Tie as tie
 
 abbrev Inv-loop : tie.InvT-loop
 Inv-loop format labels₀ k₀ labels k = (k ≤ 16) × (length labels ≡ length labels₀)

@@ -2,8 +2,8 @@
 use Prim.Native.Nat.{_-_, _≤_}
 use borrow.Author.Needs.{needs}
 use lib.ListN.{length}
-use Rattle.frames.proofs.digest_slots.Statement.{statement}
-use Rattle.frames.proofs.digest_slots.Tie as tie
+use Rattle.vectors.proofs.frames.digest_slots.Statement.{statement}
+use Rattle.vectors.proofs.frames.digest_slots.Tie as tie
 
 abbrev Inv-loop : tie.InvT-loop
 Inv-loop list from to mask end d₀ i₀ d i = end ≤ length list
