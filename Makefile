@@ -7,7 +7,7 @@
 # make tables     write annex C's tables anew from data/annex-c.csv, and the expected output that rests on them
 # make expected   write the test programs' expected output anew, by the separately written encoder
 # Each installs what it needs and the machine lacks, or says in a line what to install.
-.PHONY: all bench test tests library-tests other-tests lib speed tables expected oracle packages
+.PHONY: all bench test tests first-half second-half lib speed tables expected oracle packages
 
 oracle = tests/oracle/target/release/oracle
 cargo_flags = --quiet --release --offline --manifest-path
@@ -34,25 +34,25 @@ bench:
 test: packages
 	tests/gate
 
-# The two halves need nothing of each other, so they run side by side.
+# Two halves that need nothing of each other, side by side.
 tests: packages
 	$(MAKE) --no-print-directory oracle
 	rt check bench
 	$(MAKE) --no-print-directory lib
-	$(MAKE) --no-print-directory --output-sync=target -j2 library-tests other-tests
+	$(MAKE) --no-print-directory --output-sync=target -j2 first-half second-half
 
-library-tests:
+first-half:
 	tests/c/run
 	$(PYTHON) tests/python/test_sccc.py
 	tests/examples/run
 	tests/bench-lines
-
-other-tests:
 	tools/annex-c-tables --check
 	$(oracle) self-check
 	tests/expected --check
-	tests/annex-c-rows
 	tests/readme
+
+second-half:
+	tests/annex-c-rows
 	for crate in $(rust_tests); do cargo test --all-targets $(cargo_flags) $$crate || exit 1; done
 	$(build) tests/random/Cargo.toml
 	tests/random/target/release/random --seconds $(random_seconds)

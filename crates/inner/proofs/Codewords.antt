@@ -26,19 +26,19 @@ use Rattle.puncture.proofs.Matched.{rate-matched-bits}
 use Rattle.inner.specs.Registers.{readFrom, upper, lower, registers, interleaved, fromOuter}
 use Rattle.inner.specs.Lent.{Lent, written}
 
-pub read-length : (π : ℕ → ℕ) (kept : List ℕ) (i n : ℕ) → length (readFrom π kept i n) ≡ n
-read-length π kept i zero = refl
-read-length π kept i (suc n) = ap suc (read-length π kept (i + 1) n)
+pub read-length : (ρ : ℕ → ℕ) (kept : List ℕ) (i n : ℕ) → length (readFrom ρ kept i n) ≡ n
+read-length ρ kept i zero = refl
+read-length ρ kept i (suc n) = ap suc (read-length ρ kept (i + 1) n)
 
-read-bits : (π : ℕ → ℕ) (kept : List ℕ) → allBits kept ≡ true → (i n : ℕ) → allBits (readFrom π kept i n) ≡ true
-read-bits π kept h i zero = refl
-read-bits π kept h i (suc n) = rw (le-leb (getD kept (π i) 0) 1 (legal-at 1 kept h (π i))) (read-bits π kept h (i + 1) n)
+read-bits : (ρ : ℕ → ℕ) (kept : List ℕ) → allBits kept ≡ true → (i n : ℕ) → allBits (readFrom ρ kept i n) ≡ true
+read-bits ρ kept h i zero = refl
+read-bits ρ kept h i (suc n) = rw (le-leb (getD kept (ρ i) 0) 1 (legal-at 1 kept h (ρ i))) (read-bits ρ kept h (i + 1) n)
 
--- what stands behind the bits that π reaches is not read
-read-front : (π : ℕ → ℕ) (a b : List ℕ) (I : ℕ) → ((i : ℕ) → i < I → π i < length a) → (i n : ℕ) → i + n ≤ I → readFrom π (a ++ b) i n ≡ readFrom π a i n
-read-front π a b I low i zero h = refl
-read-front π a b I low i (suc n) h =
-    rw (List·getD-append a b 0 (π i) (low i (omega arith)), read-front π a b I low (i + 1) n (omega arith))
+-- what stands behind the bits that ρ reaches is not read
+read-front : (ρ : ℕ → ℕ) (a b : List ℕ) (I : ℕ) → ((i : ℕ) → i < I → ρ i < length a) → (i n : ℕ) → i + n ≤ I → readFrom ρ (a ++ b) i n ≡ readFrom ρ a i n
+read-front ρ a b I low i zero h = refl
+read-front ρ a b I low i (suc n) h =
+    rw (List·getD-append a b 0 (ρ i) (low i (omega arith)), read-front ρ a b I low (i + 1) n (omega arith))
 
 -- for any permutation of the positions
 module _ (f : ℕ) (h : isFormat f ≡ true) (ρ : ℕ → ℕ) (p : Permutes (formatOf f .i) ρ) (bits : List ℕ) (e : length bits ≡ formatOf f .i) where

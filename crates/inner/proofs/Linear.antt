@@ -3,7 +3,7 @@ use mathlib.Core.Path.{_≡_, refl, sym, ap, ap₂, _∙_}
 use mathlib.Core.Bool.{Bool, true}
 use mathlib.Core.List.{List, _++_}
 use Prim.Native.Nat.{ℕ, zero, suc, _+_, _<_}
-use lib.ListN.{length, getD}
+use lib.ListN.{length}
 use Rattle.bits.specs.Sum.{_⊕*_}
 use Rattle.bits.proofs.Sums.{⊕*-append, ⊕*-at}
 use Rattle.acm.specs.Formats.{isFormat, formatOf}

@@ -155,11 +155,11 @@ returns : tie.Need-returns Inv-loop μ-loop
 returns c =
     let s = start (c .before .before) in
     let a = s .args in
-    let π = permuted (a .alpha .now) (a .beta .now) in
-    let bits = readFrom π (a .work .now) 0 (a .f .i) in
+    let ρ = permuted (a .alpha .now) (a .beta .now) in
+    let bits = readFrom ρ (a .work .now) 0 (a .f .i) in
     let l = c .before .before in
     end-gives _ _ (a .pattern .now) (a .out .now) _ _ _ (l .loop .out) (l .loop .x0, l .loop .x1) _ _ _ (l .loop .i) (c .before .loop-test .left) (c .terminate .ensures) (l .loop .inv .2)
-    ∙ ap (λ (p : List ℕ). sets (a .out .now) 0 (upperFrom p π 0 zero-state bits ++ lower (a .f .i) (a .f .delta) bits)) (s .pre .pattern-is)
+    ∙ ap (λ (p : List ℕ). sets (a .out .now) 0 (upperFrom p ρ 0 zero-state bits ++ lower (a .f .i) (a .f .delta) bits)) (s .pre .pattern-is)
 
 pub write-spec : {M : Type 1} → statement M
 write-spec =
