@@ -36,9 +36,8 @@ test: packages
 
 # Two halves that need nothing of each other, side by side.
 tests: packages
-	$(MAKE) --no-print-directory oracle
 	rt check bench
-	$(MAKE) --no-print-directory lib
+	$(MAKE) --no-print-directory --output-sync=target -j2 oracle lib
 	$(MAKE) --no-print-directory --output-sync=target -j2 first-half second-half
 
 first-half:
