@@ -82,6 +82,11 @@ left-stores {out₀} {at} {ws} {out} {n} xs vs l = record {
   rest = rw (sets-append out n xs vs) at (l .rest);
 }
 
+-- a stretch of what is left is stored by a call
+pub left-stretch : {out₀ : List ℕ} {at : ℕ} {ws out us : List ℕ} {n : ℕ} (new xs vs : List ℕ) (k : ℕ) → us ≡ xs ++ vs → new ≡ sets out n xs → k ≡ n + length xs
+    → Left out₀ at ws out n us → Left out₀ at ws new k vs
+left-stretch new xs vs k split stored past l = rw (stored, past) (left-stores xs vs (left-as split l))
+
 -- a loop that counts its stores, k of them so far, from `at` on
 pub fill-start : (out₀ : List ℕ) (at : ℕ) (ws : List ℕ) → Left out₀ at ws out₀ (at + 0) ws
 fill-start out₀ at ws = rw add-zero (left-start out₀ at ws)

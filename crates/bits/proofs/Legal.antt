@@ -54,6 +54,10 @@ legal-at top [] e k = zero-le
 legal-at top (x ∷ l) e zero = legal-head top x l e
 legal-at top (x ∷ l) e (suc k) = legal-at top l (legal-tail top x l e) k
 
+pub legal-rest : (top : ℕ) (a b : List ℕ) → allAtMost top (a ++ b) ≡ true → allAtMost top b ≡ true
+legal-rest top [] b e = e
+legal-rest top (x ∷ a) b e = legal-rest top a b (legal-tail top x (a ++ b) e)
+
 pub legal-append : (top : ℕ) (a b : List ℕ) → allAtMost top a ≡ true → allAtMost top b ≡ true → allAtMost top (a ++ b) ≡ true
 legal-append top [] b e f = f
 legal-append top (x ∷ a) b e f =

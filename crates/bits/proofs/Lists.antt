@@ -1,11 +1,12 @@
 -- Lists, from a place on.
-use mathlib.Core.Path.{_≡_, ap, _∙_}
-use mathlib.Core.List.{List, _∷_}
+use mathlib.Core.Path.{_≡_, refl, sym, ap, _∙_}
+use mathlib.Core.List.{List, [], _∷_, _++_, append-assoc, append-nil}
 use Prim.Native.Nat.{ℕ, _+_, _<_}
 use native.Mathlib.Numerals.{add-one}
 use native.Mathlib.Omega.{arith}
-use lib.ListN.{length, getD, drop}
-use lib.Seq.{drop-cons}
+use lib.ListN.{length, getD, take, drop}
+use lib.Seq.{drop-cons, take-at, drop-at}
+use Rattle.bits.specs.Joined.{joined}
 
 -- a list from i on begins with its element at i
 pub drop-next : (l : List ℕ) (i : ℕ) → i < length l → drop i l ≡ getD l i 0 ∷ drop (i + 1) l
@@ -15,3 +16,15 @@ pub drop-next-two : (l : List ℕ) (i : ℕ) → i + 1 < length l → drop i l �
 drop-next-two l i h =
     let two : i + 1 + 1 ≡ i + 2 = omega arith in
     drop-next l i (omega arith) ∙ ap (λ (r : List ℕ). getD l i 0 ∷ r) (rw two at (drop-next l (i + 1) h))
+
+-- one more list behind the others
+pub joined-last : (lists : List (List ℕ)) (last : List ℕ) → joined (lists ++ (last ∷ [])) ≡ joined lists ++ last
+joined-last [] last = append-nil last
+joined-last (list ∷ lists) last = rw (joined-last lists last, append-assoc)
+
+-- one list parted at one place
+pub parted : (a b c d : List ℕ) → length a ≡ length c → a ++ b ≡ c ++ d → (a ≡ c) × (b ≡ d)
+parted a b c d e same = (
+  sym (take-at a b (length c) e) ∙ ap (take (length c)) same ∙ take-at c d (length c) refl,
+  sym (drop-at a b (length c) e) ∙ ap (drop (length c)) same ∙ drop-at c d (length c) refl,
+)

@@ -1,7 +1,7 @@
 -- A call whose answer is 0 has passed all of its checks, each of which has a number other than 0.
 use mathlib.Core.Path.{_≡_, refl}
 use mathlib.Core.Bool.{Bool, true}
-use mathlib.Core.List.{List, [], _∷_}
+use mathlib.Core.List.{List, [], _∷_, _++_}
 use Prim.Native.Nat.{ℕ, suc, _<_}
 use native.Mathlib.Omega.{arith}
 use borrow.Author.Tests.{ltb-true, eq-eqb, ne-eqb}
@@ -29,6 +29,19 @@ all-hold (c ∷ cs) i n e =
 pub passes : (cs : List Check) (d : Check) → numbered cs ≡ true → firstFailed cs ≡ passed → (k : ℕ) → k < length cs
     → getD cs k d .holds ≡ true
 passes cs d n e = every-at (λ i c. c .holds) cs d (all-hold cs 0 n e)
+
+-- two lists of checks, one behind the other: the first decides where one of its checks fails, and else the second
+pub fails-first : (cs ds : List Check) → (firstFailed cs ≡ passed → ⊥) → firstFailed (cs ++ ds) ≡ firstFailed cs
+fails-first [] ds n = absurd (n refl)
+fails-first (c ∷ cs) ds n = by-cases (c .holds) (λ t. rw t (fails-first cs ds (rw t at n))) (λ f. rw f)
+
+pub fails-later : (cs ds : List Check) → numbered cs ≡ true → firstFailed cs ≡ passed → firstFailed (cs ++ ds) ≡ firstFailed ds
+fails-later cs ds n e = all-past cs 0 (all-hold cs 0 n e)
+  where
+    all-past : (cs : List Check) (i : ℕ) → every (λ i c. c .holds) i cs ≡ true → firstFailed (cs ++ ds) ≡ firstFailed ds
+    all-past [] i h = refl
+    all-past (c ∷ cs) i h =
+        rw (left-true (c .holds) (every (λ i c. c .holds) (suc i) cs) h) (all-past cs (suc i) (right-true (c .holds) (every (λ i c. c .holds) (suc i) cs) h))
 
 -- what a call leaves: x if it has passed, y if it is refused
 pub when-passed : {A : Type 0} (number : ℕ) (x y : A) → number ≡ passed → x ≡ (if eqb number passed then x else y)

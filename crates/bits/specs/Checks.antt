@@ -1,4 +1,4 @@
--- The checks of document 01 ("Questions at the door") and their numbers; passed is the answer of a call that fails none.
+-- The checks of documents 01 ("Questions at the door") and 02 and their numbers; passed is the answer of a call that fails none.
 use mathlib.Core.Bool.{Bool}
 use mathlib.Core.List.{List, [], _∷_}
 use Prim.Native.Nat.{ℕ}
@@ -30,6 +30,15 @@ badPattern = 7
 
 abbrev pub badPlace : ℕ
 badPlace = 8
+
+abbrev pub badFrameLength : ℕ
+badFrameLength = 9
+
+abbrev pub otherFrameLength : ℕ
+otherFrameLength = 10
+
+abbrev pub blockWaits : ℕ
+blockWaits = 11
 
 -- a check: whether it holds, and its number
 pub record Check : Type 0 where

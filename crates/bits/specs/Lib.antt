@@ -1,7 +1,10 @@
 pub mod Checks
 pub mod Choice
 pub mod Digits
+pub mod Joined
 pub mod Legal
 pub mod Permutation
 pub mod Place
+pub mod Sequence
 pub mod Sum
+pub mod Words

@@ -1,4 +1,4 @@
-// The number of each check of document 01 ("Questions at the door"), in the order in which checks are made.
+// The number of each check of documents 01 ("Questions at the door") and 02.
 // specs/Checks.antt has the same numbers for the contracts.
 
 // No check failed.
@@ -19,3 +19,9 @@ pub const LINE: u8 = 6;
 pub const PATTERN: u8 = 7;
 // The place asked for is inside.
 pub const PLACE: u8 = 8;
+// The transfer frame has 223 to 65,536 octets.
+pub const FRAME_LENGTH: u8 = 9;
+// The transfer frame is as long as the channel's first.
+pub const CHANNEL_LENGTH: u8 = 10;
+// No whole block waits.
+pub const BLOCK_WAITS: u8 = 11;

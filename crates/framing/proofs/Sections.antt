@@ -9,9 +9,10 @@ use lib.ListN.{length, getD, drop, length-append, length-drop}
 use lib.Seq.{length-take-le, take-at, drop-append-add}
 use Rattle.bits.specs.Checks.{passed}
 use Rattle.bits.specs.Choice.{if_then_else_}
+use Rattle.bits.specs.Joined.{joined}
 use Rattle.bits.proofs.Cases.{by-cases}
 use Rattle.acm.specs.Formats.{symbols}
-use Rattle.framing.specs.Frame.{joined, section, sections}
+use Rattle.framing.specs.Frame.{section, sections}
 use Rattle.framing.specs.Calls.{sectionLabels, sectionNumber}
 use Rattle.framing.proofs.Checked.{section-passed}
 

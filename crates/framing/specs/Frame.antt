@@ -1,5 +1,5 @@
 -- The frame without pilots (figure 5-1), and a codeword section of its labels.
-use mathlib.Core.List.{List, [], _∷_, _++_}
+use mathlib.Core.List.{List, _++_}
 use Prim.Native.Nat.{ℕ, _+_, _*_}
 use lib.ListN.{drop, take}
 use Rattle.acm.specs.Formats.{symbols}
@@ -22,8 +22,3 @@ frame f labels = header f ++ labels
 -- the codeword section at a place (document 01: a part)
 abbrev pub section : List ℕ → ℕ → List ℕ
 section labels place = take symbols (drop (place * symbols) labels)
-
--- the labels of several codewords, in order
-abbrev pub joined : List (List ℕ) → List ℕ
-joined [] = []
-joined (labels ∷ others) = labels ++ joined others

@@ -11,12 +11,13 @@ use lib.Dec.{eqb}
 use lib.ListN.{length, getD, drop, replicate}
 use Rattle.bits.specs.Choice.{if_then_else_}
 use Rattle.bits.specs.Sum.{_⊕*_}
+use Rattle.bits.specs.Words.{bitsOf}
 use Rattle.bits.proofs.Lists.{drop-next}
 use Rattle.bits.proofs.Sums.{⊕*-length}
 use Rattle.bits.proofs.Table.{every, left-true, right-true}
+use Rattle.bits.proofs.Words.{bits-next, bits-xor}
 use Rattle.header.specs.Descriptor.{G, addRows, codeLength, coded, descriptor, descriptorLength, information, scrambling, twice}
-use Rattle.header.specs.Words.{bitsOf, wordLength}
-use Rattle.header.proofs.Words.{bits-next, bits-xor}
+use Rattle.header.specs.Words.{wordLength}
 
 -- the bits of each row
 abbrev pub rowBits : List ℕ → List (List ℕ)

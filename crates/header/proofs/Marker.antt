@@ -3,8 +3,9 @@ use mathlib.Core.Path.{_≡_, refl}
 use mathlib.Core.List.{List, [], _∷_}
 use Prim.Native.Nat.{ℕ}
 use lib.ListN.{length, take}
+use Rattle.bits.specs.Sequence.{sequence}
 use Rattle.bits.specs.Sum.{_⊕*_}
-use Rattle.header.specs.Marker.{g1, g2, marker, markerLength, sequence}
+use Rattle.header.specs.Marker.{g1, g2, marker, markerLength}
 
 pub marker-length : length marker ≡ markerLength
 unfolding marker

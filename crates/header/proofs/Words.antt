@@ -1,36 +1,15 @@
--- Laws of bits that are packed in words.
-use mathlib.Core.Path.{_≡_, refl, ap, _∙_}
+-- The bits of words as slots.
+use mathlib.Core.Path.{_≡_, ap, _∙_}
 use mathlib.Core.List.{List, [], _∷_, _++_, map-append}
-use Prim.Native.Nat.{ℕ, zero, suc, _+_, _-_, _*_, _/_, _%_, _^_, _≤_, _<_}
+use Prim.Native.Nat.{ℕ, _+_, _-_, _*_, _/_, _%_, _^_, _≤_, _<_}
 use native.Mathlib.Omega.{arith}
-use lib.Bits.{bitXor}
-use lib.ListN.{length, getD, drop, length-map, drop-of-length-le}
+use lib.ListN.{length, getD, drop, length-map}
 use lib.Seq.{sets}
-use Rattle.bits.specs.Sum.{_⊕*_}
-use Rattle.bits.proofs.Fill.{Left, left-as, left-stores}
-use Rattle.bits.proofs.Sums.{bit-xor}
-use Rattle.bits.proofs.Lists.{drop-next}
+use Rattle.bits.specs.Words.{bitsOf, unpacked}
+use Rattle.bits.proofs.Fill.{Left, left-stretch}
+use Rattle.bits.proofs.Words.{bits-next, bits-none, length-bits, unpacked-next, unpacked-none}
 use Rattle.header.specs.Header.{headerCode, headerSlots}
-use Rattle.header.specs.Words.{bitsOf, unpacked, wordLength}
-
--- the first of the bits that follow k others
-pub bits-next : (n k word : ℕ) → k < n → bitsOf (n - k) word ≡ word / 2 ^ (n - 1 - k) % 2 ∷ bitsOf (n - (k + 1)) word
-unfolding bitsOf
-bits-next n k word h =
-    let e : n - k ≡ suc (n - 1 - k) = omega arith in
-    let d : n - (k + 1) ≡ n - 1 - k = omega arith in
-    rw (e, d)
-
-pub length-bits : (n word : ℕ) → length (bitsOf n word) ≡ n
-unfolding bitsOf
-length-bits zero word = refl
-length-bits (suc n) word = ap suc (length-bits n word)
-
--- the exclusive or of two words is the sum of their bits
-pub bits-xor : (n a b : ℕ) → bitsOf n (bitXor a b) ≡ bitsOf n a ⊕* bitsOf n b
-unfolding bitsOf
-bits-xor zero a b = refl
-bits-xor (suc n) a b = rw (bit-xor n a b, bits-xor n a b)
+use Rattle.header.specs.Words.{wordLength}
 
 -- one word's bits as slots, after k of them
 pub slots-next : (k word code bit : ℕ) → k < wordLength → code ≡ headerCode bit → bit ≡ word / 2 ^ (wordLength - 1 - k) % 2
@@ -38,25 +17,21 @@ pub slots-next : (k word code bit : ℕ) → k < wordLength → code ≡ headerC
 slots-next k word code bit h e d = rw (e, d, bits-next wordLength k word h)
 
 pub slots-none : (k word : ℕ) → wordLength ≤ k → headerSlots (bitsOf (wordLength - k) word) ≡ []
-unfolding bitsOf
-slots-none k word h = let z : wordLength - k ≡ 0 = omega arith in rw z
+slots-none k word h = ap headerSlots (bits-none wordLength k word h)
 
 -- several words' bits as slots, after i words
 module _ (words : List ℕ) (i : ℕ) where
   slots-split : i < length words
-      → headerSlots (unpacked (drop i words)) ≡ headerSlots (bitsOf wordLength (getD words i 0)) ++ headerSlots (unpacked (drop (i + 1) words))
-  unfolding unpacked
-  slots-split h = rw (drop-next words i h, map-append headerCode)
+      → headerSlots (unpacked wordLength (drop i words)) ≡ headerSlots (bitsOf wordLength (getD words i 0)) ++ headerSlots (unpacked wordLength (drop (i + 1) words))
+  slots-split h = rw (unpacked-next wordLength words i h, map-append headerCode)
 
   pub words-next : {out₀ ws out : List ℕ} (new : List ℕ) → i < length words → new ≡ sets out (wordLength * i) (headerSlots (bitsOf wordLength (getD words i 0)))
-      → Left out₀ 0 ws out (wordLength * i) (headerSlots (unpacked (drop i words)))
-      → Left out₀ 0 ws new (wordLength * (i + 1)) (headerSlots (unpacked (drop (i + 1) words)))
+      → Left out₀ 0 ws out (wordLength * i) (headerSlots (unpacked wordLength (drop i words)))
+      → Left out₀ 0 ws new (wordLength * (i + 1)) (headerSlots (unpacked wordLength (drop (i + 1) words)))
   words-next new h e l =
       let slots = headerSlots (bitsOf wordLength (getD words i 0)) in
       let many : length slots ≡ wordLength = length-map (bitsOf wordLength (getD words i 0)) headerCode ∙ length-bits wordLength (getD words i 0) in
-      let s : wordLength * (i + 1) ≡ wordLength * i + length slots = omega arith in
-      rw (s, e) (left-stores slots (headerSlots (unpacked (drop (i + 1) words))) (left-as (slots-split h) l))
+      left-stretch new slots (headerSlots (unpacked wordLength (drop (i + 1) words))) (wordLength * (i + 1)) (slots-split h) e (omega (arith, many)) l
 
-  pub words-none : length words ≤ i → headerSlots (unpacked (drop i words)) ≡ []
-  unfolding unpacked
-  words-none h = rw (drop-of-length-le words h)
+  pub words-none : length words ≤ i → headerSlots (unpacked wordLength (drop i words)) ≡ []
+  words-none h = ap headerSlots (unpacked-none wordLength words i h)

@@ -5,10 +5,11 @@ ghost use mathlib.Core.List.{map};
 ghost use Prim.Native.Nat.{_+_, _*_, _/_, _%_, _^_, _≤_, _<_};
 ghost use lib.ListN.{length};
 ghost use lib.Seq.{sets};
+ghost use Rattle.bits.specs.Words.{bitsOf, unpacked};
 ghost use Rattle.acm.specs.Formats.{isFormat};
 ghost use Rattle.header.specs.Descriptor.{addRows, descriptor, pilotsOff};
 ghost use Rattle.header.specs.Header.{header, headerCode, headerLength, headerSlots};
-ghost use Rattle.header.specs.Words.{bitsOf, unpacked, wordLength};
+ghost use Rattle.header.specs.Words.{wordLength};
 
 const WORD_LENGTH: usize = 64;
 
@@ -84,7 +85,7 @@ fn add_rows(bits: u64, rows: &[u64]) -> u64
 // The bits of several words as slots, to the front of out.
 fn put_words(words: &[u64], out: &mut [u16])
     requires { ⌜ wordLength * length (now words) ≤ length (now out) ⌝ }
-    ensures { λ _. ⌜ now (out .exit) ≡ sets (now (out .entry)) 0 (headerSlots (unpacked (now (words .entry)))) ⌝ }
+    ensures { λ _. ⌜ now (out .exit) ≡ sets (now (out .entry)) 0 (headerSlots (unpacked wordLength (now (words .entry)))) ⌝ }
 {
     let mut i = 0;
     while i < words.len() {

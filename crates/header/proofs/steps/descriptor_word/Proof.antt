@@ -2,9 +2,9 @@
 use mathlib.Core.Path.{refl}
 use native.Mathlib.Omega.{arith}
 use borrow.Author.Needs.{needs}
+use Rattle.bits.specs.Words.{bitsOf}
 use Rattle.acm.proofs.Laws.{format-high}
 use Rattle.header.specs.Descriptor.{G, scrambling}
-use Rattle.header.specs.Words.{bitsOf}
 use Rattle.header.proofs.Descriptor.{descriptor-bits}
 use Rattle.header.proofs.steps.descriptor_word.Statement.{statement}
 use Rattle.header.proofs.steps.descriptor_word.Tie as tie

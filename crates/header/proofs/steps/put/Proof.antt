@@ -1,7 +1,7 @@
 -- The marker's words hold the marker's bits, and the descriptor follows them.
 use borrow.Author.Needs.{needs}
+use Rattle.bits.specs.Words.{bitsOf, unpacked}
 use Rattle.header.specs.Marker.{marker}
-use Rattle.header.specs.Words.{bitsOf, unpacked}
 use Rattle.header.proofs.Headers.{header-stored}
 use Rattle.header.proofs.steps.put.Statement.{statement}
 use Rattle.header.proofs.steps.put.Tie as tie

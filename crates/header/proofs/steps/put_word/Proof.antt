@@ -2,9 +2,10 @@
 use Prim.Native.Nat.{_+_, _-_, _≤_}
 use native.Mathlib.Omega.{arith}
 use borrow.Author.Needs.{needs}
+use Rattle.bits.specs.Words.{bitsOf}
 use Rattle.bits.proofs.Fill.{Left, fill-start, fill-next, fill-end}
 use Rattle.header.specs.Header.{headerSlots}
-use Rattle.header.specs.Words.{bitsOf, wordLength}
+use Rattle.header.specs.Words.{wordLength}
 use Rattle.header.proofs.Words.{slots-next, slots-none}
 use Rattle.header.proofs.steps.put_word.Statement.{statement}
 use Rattle.header.proofs.steps.put_word.Tie as tie

@@ -3,9 +3,10 @@ use Prim.Native.Nat.{_*_, _-_, _≤_}
 use native.Mathlib.Omega.{arith}
 use borrow.Author.Needs.{needs}
 use lib.ListN.{length, drop}
+use Rattle.bits.specs.Words.{unpacked}
 use Rattle.bits.proofs.Fill.{Left, left-start, fill-end}
 use Rattle.header.specs.Header.{headerSlots}
-use Rattle.header.specs.Words.{unpacked, wordLength}
+use Rattle.header.specs.Words.{wordLength}
 use Rattle.header.proofs.Words.{words-next, words-none}
 use Rattle.header.proofs.steps.put_words.Statement.{statement}
 use Rattle.header.proofs.steps.put_words.Tie as tie
@@ -13,7 +14,7 @@ use Rattle.header.proofs.steps.put_words.Tie as tie
 abbrev Inv-loop : tie.InvT-loop
 Inv-loop words out₀ i₀ out i =
     (i ≤ length words)
-    × Left out₀ 0 (headerSlots (unpacked words)) out (wordLength * i) (headerSlots (unpacked (drop i words)))
+    × Left out₀ 0 (headerSlots (unpacked wordLength words)) out (wordLength * i) (headerSlots (unpacked wordLength (drop i words)))
 
 abbrev μ-loop : tie.MeasureT-loop
 μ-loop words out₀ i₀ out i = length words - i

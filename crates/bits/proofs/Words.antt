@@ -1,0 +1,50 @@
+-- Laws of bits that are packed in words.
+use mathlib.Core.Path.{_≡_, refl, ap}
+use mathlib.Core.List.{List, [], _∷_, _++_}
+use Prim.Native.Nat.{ℕ, zero, suc, _+_, _-_, _*_, _/_, _%_, _^_, _≤_, _<_}
+use native.Mathlib.Omega.{arith}
+use lib.Bits.{bitXor}
+use lib.ListN.{length, getD, drop, drop-of-length-le, length-append}
+use Rattle.bits.specs.Sum.{_⊕*_}
+use Rattle.bits.specs.Words.{bitsOf, unpacked}
+use Rattle.bits.proofs.Lists.{drop-next}
+use Rattle.bits.proofs.Sums.{bit-xor}
+
+-- the first of the bits that follow k others, and none where all are past
+pub bits-next : (n k word : ℕ) → k < n → bitsOf (n - k) word ≡ word / 2 ^ (n - 1 - k) % 2 ∷ bitsOf (n - (k + 1)) word
+unfolding bitsOf
+bits-next n k word h =
+    let e : n - k ≡ suc (n - 1 - k) = omega arith in
+    let d : n - (k + 1) ≡ n - 1 - k = omega arith in
+    rw (e, d)
+
+pub bits-none : (n k word : ℕ) → n ≤ k → bitsOf (n - k) word ≡ []
+unfolding bitsOf
+bits-none n k word h = let z : n - k ≡ 0 = omega arith in rw z
+
+pub length-bits : (n word : ℕ) → length (bitsOf n word) ≡ n
+unfolding bitsOf
+length-bits zero word = refl
+length-bits (suc n) word = ap suc (length-bits n word)
+
+-- the exclusive or of two words is the sum of their bits
+pub bits-xor : (n a b : ℕ) → bitsOf n (bitXor a b) ≡ bitsOf n a ⊕* bitsOf n b
+unfolding bitsOf
+bits-xor zero a b = refl
+bits-xor (suc n) a b = rw (bit-xor n a b, bits-xor n a b)
+
+-- the first of the words that follow i others, and none where all are past
+pub unpacked-next : (width : ℕ) (words : List ℕ) (i : ℕ) → i < length words
+    → unpacked width (drop i words) ≡ bitsOf width (getD words i 0) ++ unpacked width (drop (i + 1) words)
+unfolding unpacked
+unpacked-next width words i h = rw (drop-next words i h)
+
+pub unpacked-none : (width : ℕ) (words : List ℕ) (i : ℕ) → length words ≤ i → unpacked width (drop i words) ≡ []
+unfolding unpacked
+unpacked-none width words i h = rw (drop-of-length-le words h)
+
+pub length-unpacked : (width : ℕ) (words : List ℕ) → length (unpacked width words) ≡ width * length words
+unfolding unpacked
+length-unpacked width [] = omega arith
+length-unpacked width (word ∷ words) =
+    omega (arith, length-append (bitsOf width word) (unpacked width words), length-bits width word, length-unpacked width words)
