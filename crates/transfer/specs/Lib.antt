@@ -1,0 +1,2 @@
+pub mod Masked
+pub mod Transfer
