@@ -11,11 +11,17 @@ use Rattle.interleaver.specs.Interleaver as interleaver
 use Rattle.interleaver.specs.Provenance.{Provenance}
 use Rattle.framing.specs.Calls.{sectionNumber}
 use Rattle.compare.specs.Comparison as compare
+use Rattle.slicer.specs.Calls as slicer
+use Rattle.slicer.specs.declared.Slicer as below
+use Rattle.slicer.specs.declared.Answer.{Answer}
 use Rattle.sccc.specs.declared.FormatInfo.{FormatInfo}
 use Rattle.sccc.specs.declared.Stepped.{Stepped}
 use Rattle.sccc.specs.declared.Interleaved.{Interleaved}
 use Rattle.sccc.specs.declared.SectionRange.{SectionRange}
 use Rattle.sccc.specs.declared.Comparison.{Comparison}
+use Rattle.sccc.specs.declared.stream.Slicer.{Slicer}
+use Rattle.sccc.specs.declared.stream.SlicerAnswer.{SlicerAnswer}
+use Rattle.sccc.specs.declared.stream.BlockAnswer.{BlockAnswer}
 
 abbrev pub infoStruct : acm.Answer → Provenance → FormatInfo
 infoStruct a p =
@@ -40,3 +46,16 @@ rangeStruct labels place =
 
 abbrev pub comparisonStruct : compare.Answer → Comparison
 comparisonStruct a = record { number = a .number; same = if a .same then 1 else 0; count = a .count; first = a .first }
+
+-- a slicer as C has it, and back
+abbrev pub slicerStruct : below.Slicer → Slicer
+slicerStruct s = record { format = s .format; «frame_length» = s .octets; waiting = s .waiting }
+
+abbrev pub slicerOf : Slicer → below.Slicer
+slicerOf s = record { format = s .format; octets = s .«frame_length»; waiting = s .waiting }
+
+abbrev pub answerStruct : Answer → SlicerAnswer
+answerStruct a = record { number = a .number; slicer = slicerStruct (a .slicer) }
+
+abbrev pub blockStruct : slicer.BlockAnswer → BlockAnswer
+blockStruct a = record { number = a .number; wait = if a .wait then 1 else 0; slicer = slicerStruct (a .slicer) }

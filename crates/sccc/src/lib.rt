@@ -16,6 +16,8 @@ use bits::checks;
 use interleaver::Source;
 use interleaver::UpperPosition;
 
+pub mod stream;
+
 // The number in the answer of a call that fails no check.
 const PASSED: u64 = checks::PASSED as u64;
 
