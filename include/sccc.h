@@ -1,15 +1,17 @@
 /*
- * sccc.h: the SCCC encoder of CCSDS 131.2-O-1 for C and C++, from an information block to its
- * codeword, the codeword's labels and a frame without pilots, and a comparison of two label lists.
- * Link build/libsccc.a or build/libsccc.so (x86-64 Linux).
+ * sccc.h: the SCCC encoder of CCSDS 131.2-O-1 for C and C++, from transfer frames to information
+ * blocks, from a block to its codeword, the codeword's labels and a frame without pilots, and a
+ * comparison of two label lists. Link build/libsccc.a or build/libsccc.so (x86-64 Linux).
  *
  * Data      A bit is a byte, 0 or 1. A label is a byte below 2^m. A slot of a frame is a uint16_t.
- *           Places and positions count from 0. K, I, W, N and m are those of the ACM format.
+ *           An octet of a transfer frame is a byte. Places and positions count from 0. K, I, W, N
+ *           and m are those of the ACM format.
  *
  * Answers   A call makes its checks in the order that is given with it. The number of the first
  *           one that fails is the answer, 0 if none does. Every argument has an answer: a number
  *           is taken whole, so 257 is not format 1, and any byte may stand in a buffer.
- *           A refusal has 0 in every other field and leaves every buffer as it was.
+ *           A refusal has 0 in every other field but a slicer, which it gives back as it came, and
+ *           leaves every buffer as it was.
  *
  * Buffers   A buffer is a pointer and a number of elements, all of which the caller can read, and
  *           write if the pointer is not to const. No buffer that a call writes overlaps another
@@ -38,13 +40,16 @@ extern "C" {
 #endif
 
 /* The checks' numbers. 6 and 7 belong to the bench program's job line, and no call gives them. */
-#define SCCC_PASSED 0          /* every check holds */
-#define SCCC_BAD_FORMAT 1      /* the format is not 1 to 27 */
-#define SCCC_BAD_LENGTH 2      /* an input list is not exactly as long as the call takes */
-#define SCCC_BAD_ELEMENT 3     /* a bit is not 0 or 1, a label not below 2^m, a state not 0 to 3 */
-#define SCCC_SHORT_WORKSPACE 4 /* the workspace is too short */
-#define SCCC_SHORT_OUTPUT 5    /* the output is too short */
-#define SCCC_BAD_PLACE 8       /* the place or position is not inside */
+#define SCCC_PASSED 0           /* every check holds */
+#define SCCC_BAD_FORMAT 1       /* the format is not 1 to 27 */
+#define SCCC_BAD_LENGTH 2       /* a list is not as long as the call takes, or too many bits wait */
+#define SCCC_BAD_ELEMENT 3      /* a bit is not 0 or 1, a label not below 2^m, a state not 0 to 3 */
+#define SCCC_SHORT_WORKSPACE 4  /* the workspace or a slicer's memory is too short */
+#define SCCC_SHORT_OUTPUT 5     /* the output is too short */
+#define SCCC_BAD_PLACE 8        /* the place or position is not inside */
+#define SCCC_BAD_FRAME_LENGTH 9 /* the transfer frame does not have 223 to 65,536 octets */
+#define SCCC_OTHER_LENGTH 10    /* the transfer frame is not as long as the channel's first */
+#define SCCC_BLOCK_WAITS 11     /* K or more bits still wait */
 
 /* Sizes that all formats share, and the largest of those that they do not. */
 #define SCCC_FORMATS 27          /* the formats are 1 to 27 */
@@ -55,6 +60,11 @@ extern "C" {
 #define SCCC_MAX_K 43678         /* bits of a block */
 #define SCCC_MAX_I 65520         /* bytes of a workspace */
 #define SCCC_MAX_N 48600         /* bits of a codeword */
+
+/* The slicer's sizes. */
+#define SCCC_LEAST_TRANSFER_FRAME 223  /* octets of a transfer frame, at least */
+#define SCCC_MOST_TRANSFER_FRAME 65536 /* and at most */
+#define SCCC_WAITING_MEMORY 600000     /* bytes of the memory in which bits wait, at least */
 
 /* provisional: 1 where the interleaver has rows that stand in for published ones, else 0 */
 typedef struct {
@@ -79,6 +89,22 @@ typedef struct {
 typedef struct {
     uint64_t number, same, count, first;
 } sccc_comparison;
+
+/* frame_length: octets of the channel's frames, 0 before the first; waiting: bits that wait */
+typedef struct {
+    uint64_t format, frame_length, waiting;
+} sccc_slicer;
+
+typedef struct {
+    uint64_t number;
+    sccc_slicer slicer;
+} sccc_slicer_answer;
+
+/* wait: 1 where fewer than K bits wait, else 0 */
+typedef struct {
+    uint64_t number, wait;
+    sccc_slicer slicer;
+} sccc_block_answer;
 
 /*
  * sccc_format: an ACM format's parameters (tables 4-1, 4-3).
@@ -188,6 +214,59 @@ sccc_section_range sccc_section(const uint8_t *labels, size_t labels_len, uint64
  */
 sccc_comparison sccc_compare(uint64_t format, const uint8_t *a, size_t a_len, const uint8_t *b,
                              size_t b_len);
+
+/*
+ * sccc_slicer_new: a channel's slicer (3.4), to which transfer frames are pushed and from which
+ * blocks are taken.
+ *
+ * A slicer goes from call to call by value, and with it the memory in which its bits wait, a bit a
+ * byte, from byte 0 on: each call is given slicer and memory as the last one left them. Then the
+ * blocks taken, and behind them the bits that wait, are the stream of the frames pushed.
+ *
+ * Computes  a slicer before the first frame.
+ * Checks    none: a format that is none is refused by the calls that are given the slicer.
+ * Success   format is the format's; frame_length and waiting are 0. The memory may hold anything.
+ */
+sccc_slicer sccc_slicer_new(uint64_t format);
+
+/*
+ * sccc_slicer_push: a transfer frame in (3.1 to 3.3).
+ *
+ * Computes  what the frame puts on the channel: the 32 bits of 1ACFFC1D, hexadecimal, then the
+ *           frame's octets, heaviest bit first, randomized from the frame's first bit on.
+ * Checks    1   the slicer's format is 1 to 27
+ *           9   frame_len is 223 to 65,536
+ *           10  the slicer's frame_length is 0 or frame_len
+ *           11  fewer than K bits wait
+ *           2   at most 600,000 bits wait
+ *           3   the bytes that wait, of those that are there, are 0 or 1
+ *           4   waiting_len is at least 600,000
+ * Success   number is 0. The frame's bits stand in waiting behind those that wait, and the bytes
+ *           before and after them are as they were. The slicer has frame_len for its frame_length,
+ *           and 32 + 8 * frame_len bits more wait.
+ * Refusal   number is the check's, and the slicer as it came. waiting is as it was.
+ */
+sccc_slicer_answer sccc_slicer_push(sccc_slicer slicer, const uint8_t *frame, size_t frame_len,
+                                    uint8_t *waiting, size_t waiting_len);
+
+/*
+ * sccc_slicer_block: an information block out (3.4).
+ *
+ * Computes  the first K bits that wait, for sccc_encode; or that there are not so many.
+ * Checks    1  the slicer's format is 1 to 27
+ *           2  at most 600,000 bits wait
+ *           3  the bytes that wait, of those that are there, are 0 or 1
+ *           4  waiting_len is at least 600,000
+ *           5  out_len is at least K
+ * Success   number is 0. Where fewer than K bits wait, wait is 1, the slicer is as it came, and
+ *           waiting and out are as they were. Else wait is 0, the first K bytes of out are the
+ *           block, the other bits that wait have moved to the front of waiting, the bytes after
+ *           those, here and in out, are as they were, and K bits fewer wait.
+ * Refusal   number is the check's, wait 0, and the slicer as it came. waiting and out are as they
+ *           were.
+ */
+sccc_block_answer sccc_slicer_block(sccc_slicer slicer, uint8_t *waiting, size_t waiting_len,
+                                    uint8_t *out, size_t out_len);
 
 #ifdef __cplusplus
 }

@@ -5,10 +5,10 @@
     block = bytes(sccc.format_info(13).k)
     labels = sccc.labels(13, sccc.encode(13, block))
 
-Data. A bit is a byte, 0 or 1, and a label a byte below 2^m. They are lent as any object with the buffer protocol whose elements
-are one byte and lie in one piece: bytes, bytearray, memoryview, array.array, a numpy array of uint8 or bool. Nothing is copied.
-A call that writes takes the memory for it as out= (and work=), or allocates it, and returns a memoryview of what it wrote, which
-numpy.asarray takes as it is.
+Data. A bit is a byte, 0 or 1, a label a byte below 2^m, an octet of a transfer frame a byte. They are lent as any object with
+the buffer protocol whose elements are one byte and lie in one piece: bytes, bytearray, memoryview, array.array, a numpy array of
+uint8 or bool. Nothing is copied. A call that writes takes the memory for it as out= (and work=), or allocates it, and returns a
+memoryview of what it wrote, which numpy.asarray takes as it is.
 
 Refusals. A call makes the checks that include/sccc.h lists with it, in that order, and raises ScccError with the number of the
 first one that fails; memory lent to it is then as it was. Numbers of any size may be given: 257 is not format 1, nor is
@@ -31,7 +31,7 @@ import operator
 import os
 import sys
 from array import array
-from typing import Any, List, NamedTuple, Optional, SupportsIndex, Union
+from typing import Any, Iterator, List, NamedTuple, Optional, SupportsIndex, Union
 
 if sys.version_info >= (3, 12):
     from collections.abc import Buffer
@@ -39,8 +39,8 @@ else:
     Buffer = Any
 
 __all__ = [
-    "FORMATS", "SYMBOLS", "SECTIONS", "FRAME_LABELS", "FRAME_SLOTS", "MEANINGS",
-    "ScccError", "FormatInfo", "Step", "Comparison",
+    "FORMATS", "SYMBOLS", "SECTIONS", "FRAME_LABELS", "FRAME_SLOTS", "LEAST_TRANSFER_FRAME", "MOST_TRANSFER_FRAME",
+    "WAITING_MEMORY", "MEANINGS", "ScccError", "FormatInfo", "Step", "Comparison", "Slicer",
     "load", "format_info", "step", "interleave", "encode", "labels", "frame", "section", "compare",
 ]
 
@@ -54,15 +54,23 @@ SECTIONS = 16
 FRAME_LABELS = 129600
 #: Slots of a frame.
 FRAME_SLOTS = 129920
+#: Octets of a transfer frame, at least and at most.
+LEAST_TRANSFER_FRAME = 223
+MOST_TRANSFER_FRAME = 65536
+#: Bytes of the memory in which a slicer's bits wait.
+WAITING_MEMORY = 600000
 
 #: What it means that the check of a number failed.
 MEANINGS = {
     1: "the format is not 1 to 27",
-    2: "an input list is not exactly as long as the call takes",
+    2: "an input list is not exactly as long as the call takes, or more than 600,000 bits are said to wait",
     3: "a bit is not 0 or 1, a label not below 2^m, or a state not 0 to 3",
-    4: "the workspace is too short",
+    4: "the workspace or a slicer's memory is too short",
     5: "the output is too short",
     8: "the place or position is not inside",
+    9: "the transfer frame does not have 223 to 65,536 octets",
+    10: "the transfer frame is not as long as the channel's first",
+    11: "K or more bits still wait",
 }
 
 
@@ -202,6 +210,66 @@ def compare(format: SupportsIndex, a: Buffer, b: Buffer) -> Comparison:
     return Comparison(r.same != 0, r.count, r.first)
 
 
+class Slicer:
+    """A channel's slicer: takes transfer frames, and yields information blocks of a format.
+
+        slicer = sccc.Slicer(13)
+        for frame in frames:
+            slicer.push(frame)
+            for block in slicer:
+                codeword = sccc.encode(slicer.format, block)
+
+    The blocks, and behind them the bits that wait, are the stream of the frames: of each the marker 1ACFFC1D, then the frame,
+    randomized. A refused call changes nothing. A format that is none is refused by the calls, not when the slicer is made. The
+    memory in which bits wait is the slicer's own, so 2, 3 and 4 never fail. One thread uses a slicer at a time.
+    """
+
+    def __init__(self, format: SupportsIndex) -> None:
+        self._slicer = _loaded().sccc_slicer_new(_number(format))
+        self._memory = _view("memory", bytearray(WAITING_MEMORY), writable=True)
+
+    @property
+    def format(self) -> int:
+        """The ACM format."""
+        return self._slicer.format
+
+    @property
+    def frame_length(self) -> int:
+        """Octets of the channel's frames, 0 before the first."""
+        return self._slicer.frame_length
+
+    @property
+    def waiting(self) -> int:
+        """Bits that wait."""
+        return self._slicer.waiting
+
+    def push(self, frame: Buffer) -> None:
+        """Takes a transfer frame.
+
+        Checks: 1; 9, the frame has 223 to 65,536 octets; 10, as many as the channel's first; 11, fewer than K bits wait.
+        """
+        given = _view("frame", frame)
+        r = _loaded().sccc_slicer_push(self._slicer, *_lent(given, self._memory, written=1))
+        _pass(r.number)
+        self._slicer = r.slicer
+
+    def block(self, *, out: Optional[Buffer] = None) -> Optional[memoryview]:
+        """The next block, the first K bytes of out; None, and nothing is changed, where fewer than K bits wait.
+
+        Checks: 1; 5, out has at least K bytes.
+        """
+        k = _loaded().sccc_format(self.format).k
+        result = _view("out", bytearray(k) if out is None else out, writable=True)
+        r = _loaded().sccc_slicer_block(self._slicer, *_lent(self._memory, result, written=2))
+        _pass(r.number)
+        self._slicer = r.slicer
+        return None if r.wait else result[:k]
+
+    def __iter__(self) -> Iterator[memoryview]:
+        """Blocks, until one would have to wait."""
+        return iter(self.block, None)
+
+
 # The C interface, as include/sccc.h declares it.
 
 
@@ -225,6 +293,18 @@ class _Comparison(ctypes.Structure):
     _fields_ = [(name, ctypes.c_uint64) for name in ("number", "same", "count", "first")]
 
 
+class _Slicer(ctypes.Structure):
+    _fields_ = [(name, ctypes.c_uint64) for name in ("format", "frame_length", "waiting")]
+
+
+class _SlicerAnswer(ctypes.Structure):
+    _fields_ = [("number", ctypes.c_uint64), ("slicer", _Slicer)]
+
+
+class _BlockAnswer(ctypes.Structure):
+    _fields_ = [("number", ctypes.c_uint64), ("wait", ctypes.c_uint64), ("slicer", _Slicer)]
+
+
 _NUMBER = [ctypes.c_uint64]
 _SLICE = [ctypes.c_void_p, ctypes.c_size_t]
 _PROTOTYPES = {
@@ -236,6 +316,9 @@ _PROTOTYPES = {
     "sccc_frame": (ctypes.c_uint8, _NUMBER + _SLICE + _SLICE),
     "sccc_section": (_SectionRange, _SLICE + _NUMBER),
     "sccc_compare": (_Comparison, _NUMBER + _SLICE + _SLICE),
+    "sccc_slicer_new": (_Slicer, _NUMBER),
+    "sccc_slicer_push": (_SlicerAnswer, [_Slicer] + _SLICE + _SLICE),
+    "sccc_slicer_block": (_BlockAnswer, [_Slicer] + _SLICE + _SLICE),
 }
 _BUILT = os.path.join(os.path.dirname(os.path.dirname(os.path.abspath(__file__))), "build", "libsccc.so")
 _library: Optional[ctypes.CDLL] = None

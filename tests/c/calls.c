@@ -16,6 +16,8 @@ static uint8_t codeword[SCCC_MAX_N + SPARE];
 static uint8_t labels[SCCC_FRAME_LABELS + SPARE];
 static uint8_t others[SCCC_SYMBOLS + SPARE];
 static uint16_t slots[SCCC_FRAME_SLOTS + SPARE];
+static uint8_t transfer[SCCC_MOST_TRANSFER_FRAME + SPARE];
+static uint8_t waiting[SCCC_WAITING_MEMORY + SPARE];
 
 static const uint64_t not_formats[] = {0, 28, 256, 257, UINT64_C(4294967297), UINT64_MAX};
 static const uint64_t not_small[] = {256, UINT64_C(4294967296), UINT64_MAX};
@@ -438,6 +440,255 @@ static void compare(void)
     COMPARE_REFUSED(1, SCCC_SYMBOLS, 0, SCCC_BAD_LENGTH);
 }
 
+static sccc_slicer slicer(uint64_t f, uint64_t frame_length, uint64_t count)
+{
+    sccc_slicer s;
+    s.format = f;
+    s.frame_length = frame_length;
+    s.waiting = count;
+    return s;
+}
+
+static int same_slicer(sccc_slicer a, sccc_slicer b)
+{
+    return a.format == b.format && a.frame_length == b.frame_length && a.waiting == b.waiting;
+}
+
+static void slicer_new(void)
+{
+    uint64_t f;
+    size_t j;
+    CHECK(sizeof(sccc_slicer) == 3 * sizeof(uint64_t));
+    for (f = 1; f <= SCCC_FORMATS; f++)
+        CHECK(same_slicer(sccc_slicer_new(f), slicer(f, 0, 0)));
+    for (j = 0; j < LENGTH(not_formats); j++)
+        CHECK(same_slicer(sccc_slicer_new(not_formats[j]), slicer(not_formats[j], 0, 0)));
+}
+
+/* A slicer's memory: so many bits, and behind them filled. */
+static void fill_waiting(size_t count)
+{
+    size_t i;
+    fill(waiting, sizeof waiting);
+    for (i = 0; i < count; i++)
+        waiting[i] = (uint8_t)(i * i / 7 % 2);
+}
+
+static void fill_transfer(unsigned seed)
+{
+    size_t i;
+    for (i = 0; i < sizeof transfer; i++)
+        transfer[i] = (uint8_t)(seed + i * i / 3);
+}
+
+/* Whether a memory holds what it held before, but for some bytes. */
+static int same_but_for(const uint8_t *memory, const uint8_t *before, size_t from, size_t length)
+{
+    const size_t to = from + length;
+    return memcmp(memory, before, from) == 0 &&
+           memcmp(memory + to, before + to, sizeof waiting - to) == 0;
+}
+
+/* Whether these are the marker's bits, then those of the transfer frame with the randomizer's
+ * sequence added, of which 3.2 prints 40 bits and says that it repeats after 255. */
+static int marked(const uint8_t *bits, size_t frame_len)
+{
+    static const char marker[] = "00011010110011111111110000011101";
+    static const char printed[] = "1111111101001000000011101100000010011010";
+    static uint8_t sequence[8 * SCCC_MOST_TRANSFER_FRAME];
+    size_t i;
+    for (i = 0; i < 32; i++)
+        if (bits[i] != marker[i] - '0')
+            return 0;
+    for (i = 0; i < 8 * frame_len; i++) {
+        sequence[i] = bits[32 + i] ^ (transfer[i / 8] >> (7 - i % 8) & 1);
+        if (sequence[i] > 1 || (i < 40 && sequence[i] != printed[i] - '0') ||
+            (i >= 255 && sequence[i] != sequence[i - 255]))
+            return 0;
+    }
+    return 1;
+}
+
+/* A push on the memory as it is, and is again afterwards. */
+static void push_gives(int line, uint64_t number, sccc_slicer s, size_t frame_len,
+                       size_t waiting_len)
+{
+    static uint8_t before[sizeof waiting], frame_before[sizeof transfer];
+    const int passes = number == SCCC_PASSED;
+    const size_t from = passes ? s.waiting : 0, length = passes ? 32 + 8 * frame_len : 0;
+    sccc_slicer_answer r;
+    memcpy(before, waiting, sizeof waiting);
+    memcpy(frame_before, transfer, sizeof transfer);
+    r = sccc_slicer_push(s, lent(transfer, frame_len), frame_len, lent_out(waiting, waiting_len),
+                         waiting_len);
+    check(line, r.number == number, "the number of sccc_slicer_push");
+    check(line, same_slicer(r.slicer, passes ? slicer(s.format, frame_len, s.waiting + length) : s),
+          "the slicer of sccc_slicer_push");
+    check(line, memcmp(transfer, frame_before, sizeof transfer) == 0, "the frame is unchanged");
+    check(line, !passes || marked(waiting + from, frame_len), "the bits of the frame");
+    check(line, same_but_for(waiting, before, from, length),
+          "waiting is unchanged where nothing is due");
+    memcpy(waiting, before, sizeof waiting);
+}
+
+#define PUSH(number, s, frame_len, waiting_len)                                                    \
+    push_gives(__LINE__, number, s, frame_len, waiting_len)
+
+static void slicer_push(void)
+{
+    static const size_t bad_lengths[] = {0, 1, 222, 65537};
+    static const uint64_t not_223[] = {
+        1, 222, 224, 479, UINT64_C(4294967519), UINT64_C(1) << 40, UINT64_MAX};
+    static const uint64_t many[] = {600000, 600001, UINT64_C(1) << 40, UINT64_MAX};
+    const size_t room = SCCC_WAITING_MEMORY;
+    uint64_t f;
+    size_t j;
+    CHECK(sizeof(sccc_slicer_answer) == 4 * sizeof(uint64_t));
+    fill_transfer(1);
+    for (f = 1; f <= SCCC_FORMATS; f++) {
+        uint64_t k = sccc_format(f).k;
+        fill_waiting(k - 1);
+        PUSH(SCCC_PASSED, slicer(f, 0, 0), 223, room);
+        PUSH(SCCC_PASSED, slicer(f, 223, k - 1), 223, sizeof waiting);
+        PUSH(SCCC_PASSED, slicer(f, 65536, k - 1), 65536, room);
+        PUSH(SCCC_SHORT_WORKSPACE, slicer(f, 0, k - 1), 65536, room - 1);
+        PUSH(SCCC_BLOCK_WAITS, slicer(f, 0, k), 223, room);
+        waiting[k - 2] = 2;
+        PUSH(SCCC_BAD_ELEMENT, slicer(f, 0, k - 1), 223, room);
+        PUSH(SCCC_PASSED, slicer(f, 0, k - 2), 223, room);
+    }
+    for (j = 0; j < LENGTH(not_formats); j++) {
+        PUSH(SCCC_BAD_FORMAT, slicer(not_formats[j], 0, 0), 223, room);
+        PUSH(SCCC_BAD_FORMAT, slicer(not_formats[j], 1, UINT64_MAX), 0, 0);
+    }
+    /* everything behind the check fails too */
+    fill_waiting(0);
+    for (j = 0; j < LENGTH(bad_lengths); j++) {
+        PUSH(SCCC_BAD_FRAME_LENGTH, slicer(1, 0, 0), bad_lengths[j], room);
+        PUSH(SCCC_BAD_FRAME_LENGTH, slicer(1, bad_lengths[j] + 1, 5758), bad_lengths[j], 5758);
+    }
+    for (j = 0; j < LENGTH(not_223); j++) {
+        PUSH(SCCC_OTHER_LENGTH, slicer(1, not_223[j], 0), 223, room);
+        PUSH(SCCC_OTHER_LENGTH, slicer(1, not_223[j], 5758), 223, 5758);
+    }
+    for (j = 0; j < LENGTH(many); j++) {
+        PUSH(SCCC_BLOCK_WAITS, slicer(1, 0, many[j]), 223, room);
+        PUSH(SCCC_BLOCK_WAITS, slicer(1, 223, many[j]), 223, 5758);
+    }
+    PUSH(SCCC_BAD_ELEMENT, slicer(1, 0, 5757), 223, 1);
+    PUSH(SCCC_SHORT_WORKSPACE, slicer(1, 0, 5757), 223, 0);
+    PUSH(SCCC_SHORT_WORKSPACE, slicer(1, 0, 0), 223, room - 1);
+}
+
+/* A block asked for on the memory as it is, and is again afterwards; `taken` bits are due. */
+static void block_gives(int line, uint64_t number, uint64_t wait, uint64_t taken, sccc_slicer s,
+                        size_t waiting_len, size_t out_len)
+{
+    static uint8_t before[sizeof waiting];
+    const size_t left = taken == 0 ? 0 : s.waiting - taken;
+    sccc_block_answer r;
+    memcpy(before, waiting, sizeof waiting);
+    fill(block, sizeof block);
+    r = sccc_slicer_block(s, lent_out(waiting, waiting_len), waiting_len, lent_out(block, out_len),
+                          out_len);
+    check(line, r.number == number, "the number of sccc_slicer_block");
+    check(line, r.wait == wait, "whether one has to wait");
+    check(line, same_slicer(r.slicer, slicer(s.format, s.frame_length, s.waiting - taken)),
+          "the slicer of sccc_slicer_block");
+    check(line, memcmp(block, before, taken) == 0, "the block");
+    check(line, as_filled(block, taken, sizeof block), "out is unchanged where nothing is due");
+    check(line, memcmp(waiting, before + taken, left) == 0, "the other bits have moved");
+    check(line, same_but_for(waiting, before, 0, left),
+          "waiting is unchanged where nothing is due");
+    memcpy(waiting, before, sizeof waiting);
+}
+
+#define BLOCK(s, waiting_len, out_len)                                                             \
+    block_gives(__LINE__, SCCC_PASSED, 0, sccc_format((s).format).k, s, waiting_len, out_len)
+#define BLOCK_WAIT(s, waiting_len, out_len)                                                        \
+    block_gives(__LINE__, SCCC_PASSED, 1, 0, s, waiting_len, out_len)
+#define BLOCK_REFUSED(number, s, waiting_len, out_len)                                             \
+    block_gives(__LINE__, number, 0, 0, s, waiting_len, out_len)
+
+static void slicer_block(void)
+{
+    static const uint64_t too_many[] = {600001, UINT64_C(4294967296), UINT64_C(1) << 40,
+                                        UINT64_MAX};
+    const size_t room = SCCC_WAITING_MEMORY;
+    uint64_t f;
+    size_t j;
+    CHECK(sizeof(sccc_block_answer) == 5 * sizeof(uint64_t));
+    for (f = 1; f <= SCCC_FORMATS; f++) {
+        uint64_t k = sccc_format(f).k;
+        fill_waiting(room);
+        BLOCK(slicer(f, 223, k), room, k);
+        BLOCK(slicer(f, 0, k + 1), sizeof waiting, sizeof block);
+        BLOCK(slicer(f, UINT64_MAX, room), room, k);
+        BLOCK_WAIT(slicer(f, 223, k - 1), room, k);
+        BLOCK_WAIT(slicer(f, 0, 0), sizeof waiting, sizeof block);
+        BLOCK_REFUSED(SCCC_SHORT_OUTPUT, slicer(f, 0, k), room, k - 1);
+        BLOCK_REFUSED(SCCC_SHORT_OUTPUT, slicer(f, 0, k - 1), room, k - 1);
+        BLOCK_REFUSED(SCCC_SHORT_WORKSPACE, slicer(f, 0, k), room - 1, k);
+        waiting[k] = 2;
+        BLOCK(slicer(f, 0, k), room, k);
+        BLOCK_REFUSED(SCCC_BAD_ELEMENT, slicer(f, 0, k + 1), room, k);
+        waiting[k] = 0;
+        waiting[0] = 255;
+        BLOCK_REFUSED(SCCC_BAD_ELEMENT, slicer(f, 0, 1), room, k);
+    }
+    for (j = 0; j < LENGTH(not_formats); j++) {
+        BLOCK_REFUSED(SCCC_BAD_FORMAT, slicer(not_formats[j], 0, 0), room, SCCC_MAX_K);
+        BLOCK_REFUSED(SCCC_BAD_FORMAT, slicer(not_formats[j], 0, UINT64_MAX), 0, 0);
+    }
+    /* everything behind the check fails too */
+    fill_waiting(0);
+    for (j = 0; j < LENGTH(too_many); j++) {
+        BLOCK_REFUSED(SCCC_BAD_LENGTH, slicer(1, 0, too_many[j]), sizeof waiting, 5758);
+        BLOCK_REFUSED(SCCC_BAD_LENGTH, slicer(1, 0, too_many[j]), 1, 0);
+    }
+    BLOCK_REFUSED(SCCC_BAD_ELEMENT, slicer(1, 0, 600000), 1, 0);
+    BLOCK_REFUSED(SCCC_SHORT_WORKSPACE, slicer(1, 0, 600000), 0, 0);
+    BLOCK_REFUSED(SCCC_SHORT_WORKSPACE, slicer(1, 0, 0), room - 1, 0);
+    BLOCK_REFUSED(SCCC_SHORT_OUTPUT, slicer(1, 0, 0), room, 0);
+    BLOCK_WAIT(slicer(1, 0, 0), room, 5758);
+}
+
+/* From a fresh slicer: the blocks taken, then the bits that wait, are the stream of the frames. */
+static void slicer_run(void)
+{
+    enum { FRAMES = 9, OCTETS = 1115, BITS = 32 + 8 * OCTETS };
+    static uint8_t joined[FRAMES * BITS];
+    uint64_t f;
+    unsigned n;
+    for (f = 1; f <= SCCC_FORMATS; f++) {
+        const size_t k = sccc_format(f).k;
+        sccc_slicer s = sccc_slicer_new(f);
+        size_t length = 0;
+        fill_waiting(0);
+        for (n = 0; n < FRAMES; n++) {
+            sccc_slicer_answer pushed;
+            sccc_block_answer taken;
+            fill_transfer(n);
+            pushed = sccc_slicer_push(s, transfer, OCTETS, waiting, sizeof waiting);
+            CHECK(pushed.number == SCCC_PASSED);
+            taken = sccc_slicer_block(pushed.slicer, waiting, sizeof waiting, block, k);
+            while (taken.number == SCCC_PASSED && !taken.wait && length + k <= sizeof joined) {
+                memcpy(joined + length, block, k);
+                length += k;
+                taken = sccc_slicer_block(taken.slicer, waiting, sizeof waiting, block, k);
+            }
+            CHECK(taken.number == SCCC_PASSED && taken.wait);
+            s = taken.slicer;
+        }
+        CHECK(s.waiting < k && length + s.waiting == sizeof joined);
+        memcpy(joined + length, waiting, sizeof joined - length);
+        for (n = 0; n < FRAMES; n++) {
+            fill_transfer(n);
+            CHECK(marked(joined + (size_t)n * BITS, OCTETS));
+        }
+    }
+}
+
 /* A thread's own buffers: it encodes one block of its format a few times over. */
 typedef struct {
     uint64_t f;
@@ -484,6 +735,7 @@ static void *call_each(void *argument)
 {
     job *j = argument;
     sccc_format_info r = sccc_format(j->f);
+    sccc_slicer s;
     sccc_step(0, 1);
     sccc_interleave(j->f, 1);
     sccc_encode(j->f, j->block, r.k, j->work, r.i, j->once, r.n);
@@ -491,6 +743,9 @@ static void *call_each(void *argument)
     sccc_frame(j->f, labels, SCCC_FRAME_LABELS, slots, SCCC_FRAME_SLOTS);
     sccc_section(labels, SCCC_FRAME_LABELS, 1);
     sccc_compare(j->f, others, SCCC_SYMBOLS, labels, SCCC_SYMBOLS);
+    s = sccc_slicer_new(j->f);
+    s = sccc_slicer_push(s, transfer, SCCC_MOST_TRANSFER_FRAME, waiting, sizeof waiting).slicer;
+    sccc_slicer_block(s, waiting, sizeof waiting, j->block, r.k);
     return NULL;
 }
 
@@ -531,6 +786,10 @@ int main(void)
         {"sccc_frame", frame},
         {"sccc_section", section},
         {"sccc_compare", compare},
+        {"sccc_slicer_new", slicer_new},
+        {"sccc_slicer_push", slicer_push},
+        {"sccc_slicer_block", slicer_block},
+        {"slicers' runs", slicer_run},
         {"threads", threads},
         {"stack", stack},
     };

@@ -11,6 +11,7 @@ import tempfile
 import unittest
 from array import array
 from concurrent.futures import ThreadPoolExecutor
+from itertools import islice
 
 import numpy
 
@@ -39,6 +40,19 @@ def digest(elements):
     for x in elements:
         d = (d * 1000003 + x + 1) % 4294967291
     return d
+
+
+def octets(seed, length):
+    return bytes((seed + i * i // 3) % 256 for i in range(length))
+
+
+def marked(frame):
+    """What a frame puts on the channel, by 3.2's polynomial: x^8 + x^7 + x^5 + x^3 + 1, from all ones."""
+    sequence = [1] * 8
+    while len(sequence) < 255:
+        sequence.append(sequence[-1] ^ sequence[-3] ^ sequence[-5] ^ sequence[-8])
+    bits = (byte >> place & 1 for byte in frame for place in range(7, -1, -1))
+    return bytes(map(int, f"{0x1ACFFC1D:032b}")) + bytes(bit ^ sequence[i % 255] for i, bit in enumerate(bits))
 
 
 def filled(length):
@@ -247,6 +261,115 @@ class Frames(Case):
         self.assertRefused(2, sccc.compare, 13, a, b[1:])
         self.assertRefused(2, sccc.compare, 13, a + b"\0", b)
         self.assertRefused(2, sccc.compare, 13, b"", b"")
+
+
+class Slicers(Case):
+    frame = octets(7, 1115)
+
+    def state(self, slicer):
+        return slicer.format, slicer.frame_length, slicer.waiting, bytes(slicer._memory)
+
+    def assertUnchanged(self, number, slicer, call, *arguments, **keywords):
+        before = self.state(slicer)
+        self.assertRefused(number, call, *arguments, **keywords)
+        self.assertEqual(self.state(slicer), before)
+
+    def test_the_sequence_is_the_printed_one(self):
+        self.assertEqual(marked(bytes(5))[32:], bytes(map(int, "1111111101001000000011101100000010011010")))
+
+    def test_blocks_are_the_frames_stream(self):
+        for f in range(1, sccc.FORMATS + 1):
+            k = sccc.format_info(f).k
+            slicer = sccc.Slicer(f)
+            self.assertEqual(self.state(slicer)[:3], (f, 0, 0))
+            frames = [octets(f + n, 1115) for n in range(6)]
+            handed = []
+            for frame in frames:
+                slicer.push(frame)
+                handed += islice(slicer, 9)
+                self.assertEqual(slicer.frame_length, 1115)
+                self.assertLess(slicer.waiting, k)
+            self.assertEqual({len(block) for block in handed}, {k})
+            self.assertEqual(b"".join([*handed, slicer._memory[: slicer.waiting]]), b"".join(map(marked, frames)))
+
+    def test_block_writes_no_more_than_it_says(self):
+        slicer = sccc.Slicer(1)
+        slicer.push(self.frame)
+        bits, memory = marked(self.frame), bytes(slicer._memory)
+        out = filled(5763)
+        result = slicer.block(out=out)
+        self.assertEqual(result, bits[:5758])
+        self.assertIs(result.obj, out)
+        self.assertEqual(out[5758:], filled(5763)[5758:])
+        self.assertEqual(slicer.waiting, len(bits) - 5758)
+        self.assertEqual(slicer._memory, bits[5758:] + memory[len(bits) - 5758 :])
+        before = self.state(slicer)
+        out = filled(5763)
+        self.assertIsNone(slicer.block(out=out))
+        self.assertIsNone(slicer.block())
+        self.assertEqual(list(slicer), [])
+        self.assertEqual((out, self.state(slicer)), (filled(5763), before))
+
+    def test_refusals(self):
+        slicer = sccc.Slicer(1)
+        for length in (0, 222, 65537):
+            self.assertUnchanged(9, slicer, slicer.push, bytes(length))
+        self.assertUnchanged(5, slicer, slicer.block, out=bytearray(5757))
+        self.assertUnchanged(5, slicer, slicer.block, out=bytearray())
+        slicer.push(self.frame)
+        self.assertUnchanged(9, slicer, slicer.push, bytes(222))
+        for length in (223, 1114, 1116, 65536):
+            self.assertUnchanged(10, slicer, slicer.push, bytes(length))
+        self.assertUnchanged(11, slicer, slicer.push, self.frame)
+        self.assertUnchanged(5, slicer, slicer.block, out=bytearray(5757))
+
+    def test_no_format(self):
+        for f in NOT_FORMATS:
+            slicer = sccc.Slicer(f)
+            self.assertUnchanged(1, slicer, slicer.push, b"")
+            self.assertUnchanged(1, slicer, slicer.push, self.frame)
+            self.assertUnchanged(1, slicer, slicer.block)
+            self.assertUnchanged(1, slicer, slicer.block, out=bytearray(sccc.WAITING_MEMORY))
+            self.assertUnchanged(1, slicer, list, slicer)
+        self.assertRaises(TypeError, sccc.Slicer, 13.0)
+
+    def test_lengths_of_frames(self):
+        for length in (sccc.LEAST_TRANSFER_FRAME, sccc.MOST_TRANSFER_FRAME):
+            slicer = sccc.Slicer(27)
+            slicer.push(bytes(length))
+            self.assertEqual((slicer.frame_length, slicer.waiting), (length, 32 + 8 * length))
+
+    def test_the_state_is_read_only(self):
+        slicer = sccc.Slicer(1)
+        for name in ("format", "frame_length", "waiting"):
+            self.assertRaises(AttributeError, setattr, slicer, name, 0)
+
+    def test_memory(self):
+        for frame in (
+            bytearray(self.frame),
+            memoryview(b"\0" + self.frame)[1:],
+            array("b", self.frame),
+            numpy.frombuffer(self.frame, dtype=numpy.uint8),
+        ):
+            slicer = sccc.Slicer(1)
+            slicer.push(frame)
+            self.assertEqual(slicer.block(), marked(self.frame)[:5758])
+        slicer = sccc.Slicer(1)
+        slicer.push(self.frame)
+        before = self.state(slicer)
+        for call in (
+            lambda: slicer.push("0" * 1115),
+            lambda: slicer.push(array("H", bytes(2230))),
+            lambda: slicer.push(memoryview(bytes(2230))[::2]),
+            lambda: slicer.block(out=bytes(5758)),
+            lambda: slicer.block(out=array("H", bytes(5758))),
+        ):
+            self.assertRaises(TypeError, call)
+        self.assertRaises(ValueError, slicer.push, slicer._memory[:1115])
+        self.assertRaises(ValueError, slicer.block, out=slicer._memory[599999:])
+        self.assertEqual(self.state(slicer), before)
+        out = numpy.zeros(5758, dtype=numpy.uint8)
+        self.assertTrue(numpy.shares_memory(numpy.asarray(slicer.block(out=out)), out))
 
 
 class Memory(Case):

@@ -55,6 +55,32 @@ pub struct Comparison {
     pub first: u64,
 }
 
+/// A slicer: what goes from call to call beside its memory.
+#[repr(C)]
+#[derive(Clone, Copy, Debug, PartialEq, Eq)]
+pub struct Slicer {
+    pub format: u64,
+    pub frame_length: u64,
+    pub waiting: u64,
+}
+
+/// What `sccc_slicer_push` gives.
+#[repr(C)]
+#[derive(Clone, Copy, Debug, PartialEq, Eq)]
+pub struct SlicerAnswer {
+    pub number: u64,
+    pub slicer: Slicer,
+}
+
+/// What `sccc_slicer_block` gives; wait is 1 or 0.
+#[repr(C)]
+#[derive(Clone, Copy, Debug, PartialEq, Eq)]
+pub struct BlockAnswer {
+    pub number: u64,
+    pub wait: u64,
+    pub slicer: Slicer,
+}
+
 extern "C" {
     fn sccc_format(format: u64) -> FormatInfo;
     fn sccc_step(state: u64, bit: u64) -> Stepped;
@@ -90,6 +116,21 @@ extern "C" {
         b: *const u8,
         b_len: usize,
     ) -> Comparison;
+    fn sccc_slicer_new(format: u64) -> Slicer;
+    fn sccc_slicer_push(
+        slicer: Slicer,
+        frame: *const u8,
+        frame_len: usize,
+        waiting: *mut u8,
+        waiting_len: usize,
+    ) -> SlicerAnswer;
+    fn sccc_slicer_block(
+        slicer: Slicer,
+        waiting: *mut u8,
+        waiting_len: usize,
+        out: *mut u8,
+        out_len: usize,
+    ) -> BlockAnswer;
 }
 
 fn pointer<T>(list: &[T]) -> *const T {
@@ -172,4 +213,35 @@ pub fn section(labels: &[u8], place: u64) -> SectionRange {
 pub fn compare(format: u64, a: &[u8], b: &[u8]) -> Comparison {
     // SAFETY: as in encode.
     unsafe { sccc_compare(format, pointer(a), a.len(), pointer(b), b.len()) }
+}
+
+pub fn slicer_new(format: u64) -> Slicer {
+    // SAFETY: it takes numbers alone.
+    unsafe { sccc_slicer_new(format) }
+}
+
+pub fn slicer_push(slicer: Slicer, frame: &[u8], waiting: &mut [u8]) -> SlicerAnswer {
+    // SAFETY: as in encode.
+    unsafe {
+        sccc_slicer_push(
+            slicer,
+            pointer(frame),
+            frame.len(),
+            pointer_mut(waiting),
+            waiting.len(),
+        )
+    }
+}
+
+pub fn slicer_block(slicer: Slicer, waiting: &mut [u8], out: &mut [u8]) -> BlockAnswer {
+    // SAFETY: as in encode.
+    unsafe {
+        sccc_slicer_block(
+            slicer,
+            pointer_mut(waiting),
+            waiting.len(),
+            pointer_mut(out),
+            out.len(),
+        )
+    }
 }

@@ -1,18 +1,21 @@
 //! The checks of each call and their numbers (document 01: questions at the
-//! door). Each function gives the number of the first check that fails, 0 if
-//! none does.
+//! door; document 02 for the slicer). Each function gives the number of the
+//! first check that fails, 0 if none does.
 
 use crate::framing::{FRAME_LABELS, FRAME_SLOTS, SECTIONS};
+use crate::slicer::{Slicer, MEMORY};
 use crate::tables::{self, SECTION};
+use crate::transfer::{LEAST_OCTETS, MOST_OCTETS};
 
 pub const PASSED: u64 = 0;
 /// The format is not 1 to 27.
 pub const FORMAT: u64 = 1;
-/// An input list is not exactly as long as the call takes.
+/// An input list is not exactly as long as the call takes, or more bits are
+/// said to wait than a slicer's memory holds.
 pub const LENGTH: u64 = 2;
 /// An input element is not legal.
 pub const ELEMENT: u64 = 3;
-/// The workspace is too short.
+/// The workspace, or a slicer's memory, is too short.
 pub const WORKSPACE: u64 = 4;
 /// The output is too short.
 pub const OUTPUT: u64 = 5;
@@ -22,6 +25,12 @@ pub const JOB_LINE: u64 = 6;
 pub const PATTERN: u64 = 7;
 /// The position or place asked for is not inside.
 pub const POSITION: u64 = 8;
+/// The transfer frame does not have 223 to 65,536 octets.
+pub const FRAME_LENGTH: u64 = 9;
+/// The transfer frame is not as long as the channel's first.
+pub const CHANNEL_LENGTH: u64 = 10;
+/// K or more bits still wait.
+pub const BLOCK_WAITS: u64 = 11;
 
 /// The number of the first check that does not hold.
 fn first_failed(checks: &[(u64, bool)]) -> u64 {
@@ -104,6 +113,42 @@ pub fn interleave(format: u64, position: u64) -> u64 {
         return FORMAT;
     };
     first_failed(&[(POSITION, position < f.I as u64)])
+}
+
+/// Handing a transfer frame to a slicer.
+pub fn push(slicer: &Slicer, frame: &[u8], memory: &[u8]) -> u64 {
+    let Some(f) = tables::format(slicer.format) else {
+        return FORMAT;
+    };
+    let octets = frame.len();
+    let channel = [0, octets as u64];
+    let [count, bits, room] = waiting(slicer, memory);
+    first_failed(&[
+        (FRAME_LENGTH, (LEAST_OCTETS..=MOST_OCTETS).contains(&octets)),
+        (CHANNEL_LENGTH, channel.contains(&slicer.frame_length)),
+        (BLOCK_WAITS, slicer.waiting < f.K as u64),
+        count,
+        bits,
+        room,
+    ])
+}
+
+/// Asking a slicer for a block. Whether one has to wait is no check.
+pub fn block(slicer: &Slicer, memory: &[u8], out_len: usize) -> u64 {
+    let Some(f) = tables::format(slicer.format) else {
+        return FORMAT;
+    };
+    let [count, bits, room] = waiting(slicer, memory);
+    first_failed(&[count, bits, room, (OUTPUT, out_len >= f.K)])
+}
+
+/// What both ask of the bits that wait and of their memory.
+fn waiting(slicer: &Slicer, memory: &[u8]) -> [(u64, bool); 3] {
+    [
+        (LENGTH, slicer.waiting <= MEMORY as u64),
+        (ELEMENT, all_bits(slicer.bits(memory))),
+        (WORKSPACE, memory.len() >= MEMORY),
+    ]
 }
 
 /// The bench program's job line, which asks 6, 1, 7.
@@ -228,6 +273,81 @@ mod tests {
         assert_eq!(step(256, 256), ELEMENT);
         assert_eq!(interleave(1, I as u64 - 1), PASSED);
         assert_eq!(interleave(1, I as u64), POSITION);
+    }
+
+    fn slicer(format: u64, frame_length: u64, waiting: u64) -> Slicer {
+        Slicer {
+            format,
+            frame_length,
+            waiting,
+        }
+    }
+
+    /// 2 is never the first to fail: a count that fails it has failed 11.
+    #[test]
+    fn push_asks_1_9_10_11_3_4() {
+        let frame = [0; MOST_OCTETS + 1];
+        let ones = vec![1; MEMORY];
+        let twos = vec![2; MEMORY];
+        let none: &[u8] = &[];
+        let asked = |format, length, waiting, octets, memory: &[u8]| {
+            push(&slicer(format, length, waiting), &frame[..octets], memory)
+        };
+        let k = K as u64;
+        for format in [0, 28, 257, 1 << 32 | 1] {
+            assert_eq!(asked(format, 1, k, 222, &twos[1..]), FORMAT);
+        }
+        for octets in [0, LEAST_OCTETS - 1, MOST_OCTETS + 1] {
+            assert_eq!(asked(1, 1, k, octets, &twos[1..]), FRAME_LENGTH);
+            assert_eq!(asked(1, octets as u64, 0, octets, &ones), FRAME_LENGTH);
+        }
+        for length in [1, 222, 224, 1 << 8 | 223, 1 << 40, u64::MAX] {
+            assert_eq!(asked(1, length, k, 223, &twos[1..]), CHANNEL_LENGTH);
+            assert_eq!(asked(1, length, 0, 223, &ones), CHANNEL_LENGTH);
+        }
+        for waiting in [k, k + 1, 600_000, 600_001, 1 << 40, u64::MAX] {
+            assert_eq!(asked(1, 223, waiting, 223, &twos[1..]), BLOCK_WAITS);
+            assert_eq!(asked(1, 0, waiting, 223, &ones), BLOCK_WAITS);
+        }
+        assert_eq!(asked(1, 0, 1, 223, &twos[1..]), ELEMENT);
+        assert_eq!(asked(1, 0, k - 1, 223, &twos[..1]), ELEMENT);
+        assert_eq!(asked(1, 0, 0, 223, &twos[1..]), WORKSPACE);
+        assert_eq!(asked(1, 0, k - 1, 223, none), WORKSPACE);
+        assert_eq!(asked(1, 0, k - 1, 223, &ones), PASSED);
+        assert_eq!(asked(1, 65_536, k - 1, 65_536, &ones), PASSED);
+    }
+
+    #[test]
+    fn block_asks_1_2_3_4_5() {
+        let ones = vec![1; MEMORY];
+        let twos = vec![2; MEMORY];
+        let asked = |format, waiting, memory: &[u8], out_len| {
+            block(&slicer(format, 1, waiting), memory, out_len)
+        };
+        assert_eq!(asked(257, u64::MAX, &twos[1..], 0), FORMAT);
+        for waiting in [600_001, 1 << 40, u64::MAX] {
+            assert_eq!(asked(1, waiting, &twos[1..], 0), LENGTH);
+        }
+        assert_eq!(asked(1, 1, &twos[1..], 0), ELEMENT);
+        assert_eq!(asked(1, 600_000, &twos[..1], 0), ELEMENT);
+        assert_eq!(asked(1, 600_000, &ones[1..], 0), WORKSPACE);
+        assert_eq!(asked(1, 600_000, &ones, K - 1), OUTPUT);
+        assert_eq!(asked(1, 0, &twos, K - 1), OUTPUT);
+        assert_eq!(asked(1, 0, &twos, K), PASSED);
+        assert_eq!(asked(1, 600_000, &ones, K), PASSED);
+    }
+
+    /// The bytes behind those that wait may be anything.
+    #[test]
+    fn only_what_waits_has_to_be_bits() {
+        let mut memory = vec![0; MEMORY];
+        memory[K - 1] = 2;
+        assert_eq!(block(&slicer(1, 0, K as u64 - 1), &memory, K), PASSED);
+        assert_eq!(block(&slicer(1, 0, K as u64), &memory, K), ELEMENT);
+        let frame = [0; 223];
+        assert_eq!(push(&slicer(1, 0, K as u64 - 1), &frame, &memory), PASSED);
+        memory[0] = 2;
+        assert_eq!(push(&slicer(1, 0, 1), &frame, &memory), ELEMENT);
     }
 
     #[test]

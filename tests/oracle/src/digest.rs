@@ -3,6 +3,7 @@
 //! sides of a comparison follow them.
 
 use crate::tables::Format;
+use crate::transfer;
 
 /// d starts at 1; each element x makes it (d * 1000003 + x + 1) modulo
 /// 4294967291.
@@ -11,16 +12,26 @@ pub fn digest<T: Copy + Into<u64>>(list: &[T]) -> u64 {
     list.iter().fold(1, add)
 }
 
-/// x starts at the seed; for each bit x becomes (x * 1103515245 + 12345) modulo
-/// 2^31, and the bit is (x / 65536) modulo 2.
-pub fn seeded_block(seed: u64, length: usize) -> Vec<u8> {
+/// x starts at the seed; for each element x becomes (x * 1103515245 + 12345)
+/// modulo 2^31, and the element is (x / 65536) modulo the number of values.
+fn seeded(seed: u64, length: usize, values: u64) -> Vec<u8> {
     let mut x = seed;
-    let mut block = Vec::new();
+    let mut list = Vec::new();
     for _ in 0..length {
         x = (x * 1_103_515_245 + 12_345) % 2_147_483_648;
-        block.push((x / 65_536 % 2) as u8);
+        list.push((x / 65_536 % values) as u8);
     }
-    block
+    list
+}
+
+/// Bits of a seed.
+pub fn seeded_block(seed: u64, length: usize) -> Vec<u8> {
+    seeded(seed, length, 2)
+}
+
+/// Octets of a seed.
+pub fn seeded_frame(seed: u64, octets: usize) -> Vec<u8> {
+    seeded(seed, octets, 256)
 }
 
 /// The bench program's patterns: 0 all zeros, 1 all ones, 2 a single one at
@@ -55,6 +66,17 @@ pub fn frame_blocks(format: &Format) -> Vec<Vec<u8>> {
         .collect()
 }
 
+/// The first sixteen blocks of the test stream: transfer frames of 1,115
+/// octets, of the seeds 4000, 4001 and so on.
+pub fn stream_blocks(format: &Format) -> Vec<Vec<u8>> {
+    let frames = (4000..).map(|seed| seeded_frame(seed, 1115));
+    let bits: Vec<u8> = frames
+        .flat_map(|frame| transfer::marked(&frame))
+        .take(16 * format.K)
+        .collect();
+    bits.chunks(format.K).map(<[u8]>::to_vec).collect()
+}
+
 #[cfg(test)]
 mod tests {
     use super::*;
@@ -72,6 +94,7 @@ mod tests {
     fn seeded_block_by_hand() {
         // From seed 0: 12345, 1406932606, 654583775, 1449466924.
         assert_eq!(seeded_block(0, 4), [0, 0, 0, 1]);
+        assert_eq!(seeded_frame(0, 4), [0, 220, 4, 101]);
     }
 
     #[test]

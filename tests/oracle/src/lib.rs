@@ -1,9 +1,9 @@
 //! A second encoder for CCSDS 131.2-O-1 with Corrigendum 1, written from the
 //! text of the standard, to hold the first one against.
 //!
-//! It is slow on purpose: each stage of figure 4-1 is a function from whole
-//! vectors to whole vectors, and every table is the printed text, read when it
-//! is needed. Bits are bytes, 0 or 1; positions count from 0.
+//! It is slow on purpose: each stage of figures 2-1 and 4-1 is a function from
+//! whole vectors to whole vectors, and every table is the printed text, read
+//! when it is needed. Bits are bytes, 0 or 1; positions count from 0.
 
 // The standard's letters are the names here: K, I, W, N, S_sur, Delta.
 #![allow(non_snake_case)]
@@ -17,6 +17,8 @@ pub mod encoder;
 pub mod framing;
 pub mod puncturing_search;
 pub mod self_check;
+pub mod slicer;
 pub mod tables;
+pub mod transfer;
 pub mod trellis;
 pub mod wrong_rows;

@@ -4,9 +4,10 @@
 #![allow(non_snake_case)]
 
 use oracle::annex_c::{self, AnnexC};
-use oracle::digest::{digest, frame_blocks, pattern_block, vector_blocks};
+use oracle::digest::{digest, frame_blocks, pattern_block, stream_blocks, vector_blocks};
 use oracle::encoder::{encode, labels};
-use oracle::{annex_d, framing, puncturing_search, self_check, tables, wrong_rows};
+use oracle::tables::{self, Format};
+use oracle::{annex_d, framing, puncturing_search, self_check, wrong_rows};
 use std::io::Write;
 use std::path::PathBuf;
 use std::process::ExitCode;
@@ -18,6 +19,7 @@ const USAGE: &str = "usage: oracle [--annex-c PATH] COMMAND
   formats              the ACM formats, as document 01 lists them
   vectors              digests of six encoded blocks for each format
   frames               digests of one frame for five formats
+  streams              the same of a stream of transfer frames
   ones FORMAT PATTERN  ones in the codeword of pattern 0, 1 or 2
   annex-d              the spread of each interleaver
   wrong-rows           how often annex D's rule misses a wrong row of annex C
@@ -55,7 +57,8 @@ fn command(arguments: &[String]) -> Result<(String, ExitCode), String> {
         }
         ["formats"] => tables::listing(),
         ["vectors"] => vectors(&annex_c()?),
-        ["frames"] => frames(&annex_c()?)?,
+        ["frames"] => frames(&annex_c()?, frame_blocks)?,
+        ["streams"] => frames(&annex_c()?, stream_blocks)?,
         ["ones", format, pattern] => ones(&annex_c()?, format, pattern)?,
         ["annex-d"] => annex_d::listing(&annex_c()?),
         ["wrong-rows"] => wrong_rows::listing(&annex_c()?),
@@ -84,12 +87,12 @@ fn vectors(annex_c: &AnnexC) -> String {
 }
 
 /// Digests of marker, descriptor, labels and slots of one frame for each of
-/// five formats.
-fn frames(annex_c: &AnnexC) -> Result<String, String> {
+/// five formats, from its sixteen blocks.
+fn frames(annex_c: &AnnexC, blocks: fn(&Format) -> Vec<Vec<u8>>) -> Result<String, String> {
     let mut text = String::from("format,marker,descriptor,labels,frame\n");
     for number in FRAME_FORMATS {
         let f = tables::format(number).ok_or("no such format")?;
-        let all_labels: Vec<u8> = (frame_blocks(&f).iter())
+        let all_labels: Vec<u8> = (blocks(&f).iter())
             .flat_map(|block| labels(&f, &encode(&f, annex_c.of_size(f.I), block).codeword))
             .collect();
         text.push_str(&format!(

@@ -7,6 +7,7 @@ use crate::digest::vector_blocks;
 use crate::encoder::{self, PERIOD};
 use crate::framing;
 use crate::tables::{self, Format, M, SECTION};
+use crate::transfer;
 use crate::trellis::{self, run, terminating_bits, ZERO};
 
 /// One line for each check.
@@ -64,6 +65,7 @@ pub fn self_check(annex_c: &AnnexC) -> Report {
     table_4_2(&mut report);
     table_4_3(&mut report);
     trellis_readings(&mut report);
+    randomizer(&mut report);
     header(&mut report);
     annex_c_tables(&mut report, annex_c);
     if report.failed {
@@ -270,6 +272,19 @@ fn seeded_blocks(report: &mut Report, annex_c: &AnnexC) {
     });
 }
 
+/// 3.2 against the bits that the standard prints.
+fn randomizer(report: &mut Report) {
+    let sequence = transfer::sequence();
+    report.check(
+        "3.2: the randomizer's sequence starts with the 40 printed bits",
+        sequence.starts_with(&framing::digits(transfer::PRINTED_SEQUENCE)),
+    );
+    report.check(
+        "3.2: the sequence repeats after 255 bits, to the end of the longest transfer frame",
+        sequence[transfer::PERIOD..] == sequence[..sequence.len() - transfer::PERIOD],
+    );
+}
+
 /// 5.1 and 5.2 against the digits that the standard prints.
 fn header(report: &mut Report) {
     let marker = framing::marker();
@@ -347,10 +362,11 @@ mod tests {
     }
 
     #[test]
-    fn tables_and_header() {
+    fn tables_and_printed_bits() {
         let mut report = Report::default();
         table_4_2(&mut report);
         table_4_3(&mut report);
+        randomizer(&mut report);
         header(&mut report);
         assert!(!report.failed, "{}", report.text);
     }

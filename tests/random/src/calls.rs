@@ -3,18 +3,22 @@
 use crate::draw::{self, Plan};
 use crate::generator::Generator;
 use crate::lent::Lent;
+use crate::slicer;
 use crate::tally::Met;
-use crate::tally::Outcome::{self, Different, Passed, Refused, Same};
+use crate::tally::Outcome::{self, Block, Different, Passed, Refused, Same, Wait};
 use interface::{Comparison, FormatInfo, Interleaved, SectionRange, Stepped};
 use oracle::annex_c::{AnnexC, UpperPosition};
-use oracle::checks::{self, ELEMENT, FORMAT, LENGTH, OUTPUT, PASSED, POSITION, WORKSPACE};
+use oracle::checks::{
+    self, BLOCK_WAITS, CHANNEL_LENGTH, ELEMENT, FORMAT, FRAME_LENGTH, LENGTH, OUTPUT, PASSED,
+    POSITION, WORKSPACE,
+};
 use oracle::framing::{self, FRAME_LABELS, FRAME_SLOTS, SECTIONS};
 use oracle::tables::{self, Format, SECTION};
 use oracle::{compare, encoder, trellis};
 use std::fmt::Debug;
 
 /// What a comparison gives, or the arguments and the first difference.
-pub type Compared = Result<Met, String>;
+pub type Compared<T = Met> = Result<T, String>;
 
 /// A call: its name, the outcomes it can have, how often it is drawn, and its
 /// comparison.
@@ -25,7 +29,7 @@ pub struct Call {
     pub compare: fn(&mut Generator, &AnnexC) -> Compared,
 }
 
-pub const CALLS: [Call; 8] = [
+pub const CALLS: [Call; 11] = [
     Call {
         name: "format",
         outcomes: &[Passed, Refused(FORMAT)],
@@ -99,6 +103,40 @@ pub const CALLS: [Call; 8] = [
         weight: 6,
         compare: compare_call,
     },
+    Call {
+        name: "slicer",
+        outcomes: &[Passed],
+        weight: 1,
+        compare: slicer::new_call,
+    },
+    Call {
+        name: "push",
+        outcomes: &[
+            Passed,
+            Refused(FORMAT),
+            Refused(FRAME_LENGTH),
+            Refused(CHANNEL_LENGTH),
+            Refused(BLOCK_WAITS),
+            Refused(ELEMENT),
+            Refused(WORKSPACE),
+        ],
+        weight: 4,
+        compare: slicer::push_call,
+    },
+    Call {
+        name: "block",
+        outcomes: &[
+            Block,
+            Wait,
+            Refused(FORMAT),
+            Refused(LENGTH),
+            Refused(ELEMENT),
+            Refused(WORKSPACE),
+            Refused(OUTPUT),
+        ],
+        weight: 4,
+        compare: slicer::block_call,
+    },
 ];
 
 /// What is met where the oracle expects a number.
@@ -110,19 +148,19 @@ fn outcome(number: u64) -> Outcome {
 }
 
 /// The same, with the format.
-fn met(number: u64, f: &Format) -> Met {
+pub fn met(number: u64, f: &Format) -> Met {
     Met {
         outcome: outcome(number),
         format: Some(f.number).filter(|_| number == PASSED),
     }
 }
 
-/// Met, unless something differs; then what, and the arguments.
-fn compared<const N: usize>(
+/// What was met, unless something differs; then what, and the arguments.
+pub fn compared<T, const N: usize>(
     arguments: String,
-    met: Met,
+    met: T,
     results: [Result<(), String>; N],
-) -> Compared {
+) -> Compared<T> {
     let first: Result<(), String> = results.into_iter().collect();
     match first {
         Ok(()) => Ok(met),
@@ -130,7 +168,7 @@ fn compared<const N: usize>(
     }
 }
 
-fn equal<T: Debug + PartialEq>(found: T, expected: T) -> Result<(), String> {
+pub fn equal<T: Debug + PartialEq>(found: T, expected: T) -> Result<(), String> {
     if found == expected {
         return Ok(());
     }

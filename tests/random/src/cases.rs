@@ -1,18 +1,31 @@
-//! The cases of a seed: each number fixes a call and its arguments.
+//! The cases of a seed: each number fixes a call and its arguments, or a run of
+//! a slicer's calls.
 
 use crate::calls::{Call, Compared, CALLS};
 use crate::generator::Generator;
-use crate::tally::Tally;
+use crate::slicer;
+use crate::tally::{Met, Outcome, Tally};
 use oracle::annex_c::AnnexC;
+use oracle::tables::{self, Format};
 use std::time::{Duration, Instant};
 
 /// So many cases are compared however slow the machine is, so that every
-/// outcome is met. The least likely are two refusals with 2. Of 31 cases 3 are
-/// frames, of 6 frames one is to fail this check first, and of 6 lengths that
-/// are drawn for it one is right all the same: 3/31 x 1/6 x 5/6 = 5/372. Of 31
-/// cases 2 are sections, of which one in 4 is to fail it: 5/372 again. So 3000
-/// cases miss one of the outcomes, 31 in all, less than once in 10^16 runs.
-const LEAST: u64 = 3000;
+/// outcome is met. The least likely is a push's refusal with 3. Of 40 cases 4
+/// are pushes, of 8 pushes one is to fail this check first; of 5 slicers that
+/// are drawn for it one has no bits waiting, and of 8 memories one is empty:
+/// 4/40 x 1/8 x 4/5 x 7/8 = 7/800. So 4500 cases, the runs taken off, miss one
+/// of the outcomes, 53 in all, less than once in 10^16 runs of this program.
+const LEAST: u64 = 4500;
+
+/// One case of so many is a run of a slicer, of the formats in turn, so that
+/// each format has one.
+const RUN_EVERY: u64 = 100;
+
+/// What is tallied, with the outcomes to be met: each call, and runs last.
+fn parts() -> Vec<(&'static str, &'static [Outcome])> {
+    let calls = CALLS.iter().map(|call| (call.name, call.outcomes));
+    calls.chain([("run", slicer::OUTCOMES)]).collect()
+}
 
 /// The cases of one seed.
 pub struct Cases<'a> {
@@ -23,9 +36,15 @@ pub struct Cases<'a> {
 impl Cases<'_> {
     /// One case alone.
     pub fn one(&self, case: u64) -> Result<String, String> {
-        let (call, compared) = self.compare(case);
-        let met = compared?;
-        Ok(format!("{} agrees: {}", CALLS[call].name, met.outcome))
+        let (part, compared) = self.compare(case);
+        let outcomes: Vec<String> = (compared?.iter())
+            .map(|met| met.outcome.to_string())
+            .collect();
+        Ok(format!(
+            "{} agrees: {}",
+            parts()[part].0,
+            outcomes.join(", ")
+        ))
     }
 
     /// Cases 0, 1, .. until the time is up and there were enough, or one
@@ -34,18 +53,18 @@ impl Cases<'_> {
         let tallies = self.tallies(time, announce)?;
         let mut text = String::new();
         let mut missing = Vec::new();
-        for (call, tally) in CALLS.iter().zip(&tallies) {
-            text.push_str(&format!("{}\n", tally.line(call.name)));
-            for outcome in tally.missing(call.outcomes) {
-                missing.push(format!("{} {outcome}", call.name));
+        for ((name, outcomes), tally) in parts().into_iter().zip(&tallies) {
+            text.push_str(&format!("{}\n", tally.line(name)));
+            for outcome in tally.missing(outcomes) {
+                missing.push(format!("{name} {outcome}"));
             }
         }
-        let cases: u64 = tallies.iter().map(Tally::count).sum();
+        let calls: u64 = tallies.iter().map(Tally::count).sum();
         if missing.is_empty() {
-            return Ok(format!("{text}ok: {cases} cases, and none differs"));
+            return Ok(format!("{text}ok: {calls} calls, and none differs"));
         }
         let missing = missing.join(", ");
-        Err(format!("{text}NOT MET in {cases} cases: {missing}"))
+        Err(format!("{text}NOT MET in {calls} calls: {missing}"))
     }
 
     /// The options that repeat a case.
@@ -53,31 +72,45 @@ impl Cases<'_> {
         format!("again: --seed {} --case {case}", self.seed)
     }
 
-    /// What each call met.
+    /// What each part met.
     fn tallies(&self, time: Duration, announce: impl Fn(u64)) -> Result<Vec<Tally>, String> {
         let start = Instant::now();
-        let mut tallies: Vec<Tally> = CALLS.iter().map(|_| Tally::default()).collect();
+        let mut tallies: Vec<Tally> = parts().iter().map(|_| Tally::default()).collect();
         let mut case = 0;
         while case < LEAST || start.elapsed() < time {
             announce(case);
-            let (call, compared) = self.compare(case);
-            tallies[call].add(compared?);
+            let (part, compared) = self.compare(case);
+            compared?.into_iter().for_each(|met| tallies[part].add(met));
             case += 1;
         }
         Ok(tallies)
     }
 
-    /// Draws a case's call and compares it.
-    fn compare(&self, case: u64) -> (usize, Compared) {
+    /// Draws a case and compares it: the part it belongs to, and what its calls
+    /// met.
+    fn compare(&self, case: u64) -> (usize, Compared<Vec<Met>>) {
         let mut generator = Generator::of_case(self.seed, case);
-        let call = drawn_call(&mut generator);
-        let compared = (CALLS[call].compare)(&mut generator, self.annex_c);
+        let (part, compared) = match run_format(case) {
+            Some(f) => (CALLS.len(), slicer::run(&mut generator, f)),
+            None => {
+                let call = drawn_call(&mut generator);
+                let compared = (CALLS[call].compare)(&mut generator, self.annex_c);
+                (call, compared.map(|met| vec![met]))
+            }
+        };
         let named = |difference| {
-            let name = CALLS[call].name;
+            let name = parts()[part].0;
             format!("{name} DIFFERS: {difference}\n  {}", self.again(case))
         };
-        (call, compared.map_err(named))
+        (part, compared.map_err(named))
     }
+}
+
+/// The format of which a case is a run, if it is one.
+fn run_format(case: u64) -> Option<&'static Format> {
+    let (run, place) = (case / RUN_EVERY, case % RUN_EVERY);
+    let formats = tables::formats();
+    (place == 0).then(|| &formats[run as usize % formats.len()])
 }
 
 /// A call's place in the list, each as often as its weight says.
@@ -96,7 +129,13 @@ mod tests {
     use super::*;
     use oracle::annex_c;
 
-    /// 40 are to be expected of the least likely outcomes.
+    #[test]
+    fn every_format_has_a_run() {
+        let run = |f: &Format| (0..LEAST).any(|case| run_format(case) == Some(f));
+        assert!(tables::formats().iter().all(run));
+    }
+
+    /// 39 are to be expected of the least likely outcome.
     #[test]
     fn the_least_number_of_cases_meets_every_outcome_often() {
         let annex_c = annex_c::parse(crate::ANNEX_C).unwrap();
@@ -105,11 +144,10 @@ mod tests {
             seed: 1,
         };
         let tallies = cases.tallies(Duration::ZERO, |_| ()).unwrap();
-        assert_eq!(tallies.iter().map(Tally::count).sum::<u64>(), LEAST);
-        for (call, tally) in CALLS.iter().zip(&tallies) {
-            for &outcome in call.outcomes {
+        for ((name, outcomes), tally) in parts().into_iter().zip(&tallies) {
+            for &outcome in outcomes {
                 let met = tally.met(outcome);
-                assert!(met >= 25, "{} {outcome}: {met} times", call.name);
+                assert!(met >= 25, "{name} {outcome}: {met} times");
             }
         }
     }

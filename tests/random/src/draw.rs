@@ -6,24 +6,25 @@ use oracle::tables::{self, Format};
 /// Which check a case is meant to fail first. The checks before it are to pass;
 /// those after it fail as often as not, so that their order is seen.
 pub struct Plan {
-    first: Option<u64>,
+    /// Its place in the order of the call's checks; past the last for none.
+    first: usize,
+    checks: &'static [u64],
 }
 
 impl Plan {
-    /// One of the checks of a call, or none.
-    pub fn new(generator: &mut Generator, checks: &[u64]) -> Plan {
-        let at = generator.below(checks.len() + 2);
+    /// One of the checks of a call, which are given in order, or none.
+    pub fn new(generator: &mut Generator, checks: &'static [u64]) -> Plan {
         Plan {
-            first: checks.get(at).copied(),
+            first: generator.below(checks.len() + 2),
+            checks,
         }
     }
 
     /// Whether a check is to fail.
     pub fn fails(&self, generator: &mut Generator, check: u64) -> bool {
-        match self.first {
-            None => false,
-            Some(first) => check == first || (check > first && generator.coin()),
-        }
+        let place = self.checks.iter().position(|&one| one == check);
+        let place = place.expect("a check of the call");
+        place == self.first || (place > self.first && generator.coin())
     }
 }
 
@@ -162,5 +163,27 @@ pub fn either(generator: &mut Generator, fails: bool) -> [bool; 2] {
         generator.pick(&[[true, false], [false, true], [true, true]])
     } else {
         [false, false]
+    }
+}
+
+#[cfg(test)]
+mod tests {
+    use super::*;
+
+    /// As in a push, which asks 9 before 2.
+    #[test]
+    fn a_plan_goes_by_the_order_of_the_checks() {
+        let mut generator = Generator::of_case(1, 1);
+        let plan = Plan {
+            first: 1,
+            checks: &[1, 9, 2],
+        };
+        let mut fails = |check| {
+            (0..64)
+                .filter(|_| plan.fails(&mut generator, check))
+                .count()
+        };
+        assert_eq!([fails(1), fails(9)], [0, 64]);
+        assert!((1..64).contains(&fails(2)));
     }
 }

@@ -6,6 +6,7 @@ mod cases;
 mod draw;
 mod generator;
 mod lent;
+mod slicer;
 mod tally;
 mod watch;
 

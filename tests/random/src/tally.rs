@@ -10,6 +10,9 @@ pub enum Outcome {
     /// A comparison passed, of lists that are the same or that differ.
     Same,
     Different,
+    /// A slicer was asked for a block, and has one or has to wait.
+    Block,
+    Wait,
     /// With the number of the check that failed.
     Refused(u64),
 }
@@ -20,6 +23,8 @@ impl Display for Outcome {
             Outcome::Passed => write!(f, "passed"),
             Outcome::Same => write!(f, "same"),
             Outcome::Different => write!(f, "different"),
+            Outcome::Block => write!(f, "block"),
+            Outcome::Wait => write!(f, "wait"),
             Outcome::Refused(number) => write!(f, "{number}"),
         }
     }

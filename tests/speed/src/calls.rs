@@ -1,10 +1,12 @@
 //! The calls that are timed, on both sides, and their arguments.
 
 use crate::plain::Plain;
-use interface::Comparison;
-use oracle::digest::seeded_block;
+use interface::{BlockAnswer, Comparison, Slicer, SlicerAnswer};
+use oracle::digest::{seeded_block, seeded_frame};
 use oracle::framing::{FRAME_SLOTS, SECTIONS};
+use oracle::slicer::MEMORY;
 use oracle::tables::{Format, SECTION};
+use oracle::transfer::{marked_bits, MOST_OCTETS};
 
 /// The calls of one side.
 pub trait Side {
@@ -12,6 +14,8 @@ pub trait Side {
     fn labels(&self, format: u64, codeword: &[u8], out: &mut [u8]) -> u8;
     fn frame(&self, format: u64, labels: &[u8], out: &mut [u16]) -> u8;
     fn compare(&self, format: u64, a: &[u8], b: &[u8]) -> Comparison;
+    fn push(&self, slicer: Slicer, frame: &[u8], waiting: &mut [u8]) -> SlicerAnswer;
+    fn block(&self, slicer: Slicer, waiting: &mut [u8], out: &mut [u8]) -> BlockAnswer;
 }
 
 pub struct Library;
@@ -32,6 +36,14 @@ impl Side for Library {
     fn compare(&self, format: u64, a: &[u8], b: &[u8]) -> Comparison {
         interface::compare(format, a, b)
     }
+
+    fn push(&self, slicer: Slicer, frame: &[u8], waiting: &mut [u8]) -> SlicerAnswer {
+        interface::slicer_push(slicer, frame, waiting)
+    }
+
+    fn block(&self, slicer: Slicer, waiting: &mut [u8], out: &mut [u8]) -> BlockAnswer {
+        interface::slicer_block(slicer, waiting, out)
+    }
 }
 
 impl Side for Plain {
@@ -50,7 +62,19 @@ impl Side for Plain {
     fn compare(&self, format: u64, a: &[u8], b: &[u8]) -> Comparison {
         self.compare(format, a, b)
     }
+
+    fn push(&self, slicer: Slicer, frame: &[u8], waiting: &mut [u8]) -> SlicerAnswer {
+        self.push(slicer, frame, waiting)
+    }
+
+    fn block(&self, slicer: Slicer, waiting: &mut [u8], out: &mut [u8]) -> BlockAnswer {
+        self.block(slicer, waiting, out)
+    }
 }
+
+/// Octets of the usual frame, and of the longest.
+const USUAL: usize = 1115;
+const LONGEST: usize = MOST_OCTETS;
 
 #[derive(Clone, Copy, Debug, PartialEq, Eq)]
 pub enum Call {
@@ -61,15 +85,25 @@ pub enum Call {
     CompareSame,
     /// Of two lists that differ at the last place.
     CompareDiffer,
+    /// Of a frame, where one bit more would make a block.
+    PushUsual,
+    PushLongest,
+    /// Of what waits after such a push.
+    BlockUsual,
+    BlockLongest,
 }
 
 impl Call {
-    pub const ALL: [Call; 5] = [
+    pub const ALL: [Call; 9] = [
         Call::Encode,
         Call::Labels,
         Call::Frame,
         Call::CompareSame,
         Call::CompareDiffer,
+        Call::PushUsual,
+        Call::PushLongest,
+        Call::BlockUsual,
+        Call::BlockLongest,
     ];
 
     pub fn name(self) -> &'static str {
@@ -79,6 +113,10 @@ impl Call {
             Call::Frame => "frame",
             Call::CompareSame => "compare-same",
             Call::CompareDiffer => "compare-differ",
+            Call::PushUsual => "push-1115",
+            Call::PushLongest => "push-65536",
+            Call::BlockUsual => "block-1115",
+            Call::BlockLongest => "block-65536",
         }
     }
 
@@ -87,17 +125,22 @@ impl Call {
     }
 
     /// The ratio of times that the library is to stay below.
-    pub fn aim(self) -> u32 {
+    pub fn aim(self) -> f64 {
         match self {
-            Call::Encode | Call::Labels => 3,
-            Call::Frame | Call::CompareSame | Call::CompareDiffer => 2,
+            Call::Encode | Call::Labels => 3.0,
+            Call::Frame | Call::CompareSame | Call::CompareDiffer => 2.0,
+            Call::PushUsual | Call::PushLongest | Call::BlockUsual | Call::BlockLongest => 1.5,
         }
     }
 
     /// What its time is divided by, and how many of them a call takes.
     pub fn unit(self, format: &Format) -> (&'static str, usize) {
         match self {
-            Call::Encode | Call::Labels => ("information bit", format.K),
+            Call::Encode | Call::Labels | Call::BlockUsual | Call::BlockLongest => {
+                ("information bit", format.K)
+            }
+            Call::PushUsual => ("stream bit", marked_bits(USUAL)),
+            Call::PushLongest => ("stream bit", marked_bits(LONGEST)),
             Call::Frame => ("label", SECTIONS * SECTION),
             Call::CompareSame | Call::CompareDiffer => ("label", SECTION),
         }
@@ -113,6 +156,8 @@ pub struct Arguments {
     equal_labels: Vec<u8>,
     changed_labels: Vec<u8>,
     frame_labels: Vec<u8>,
+    usual_frame: Vec<u8>,
+    longest_frame: Vec<u8>,
 }
 
 impl Arguments {
@@ -132,6 +177,17 @@ impl Arguments {
             equal_labels: buffers.labels.clone(),
             labels: buffers.labels,
             changed_labels,
+            usual_frame: seeded_frame(1, USUAL),
+            longest_frame: seeded_frame(2, LONGEST),
+        }
+    }
+
+    /// A slicer for which all bits but one of a block wait, and so many more.
+    fn slicer(&self, more: usize) -> Slicer {
+        Slicer {
+            format: self.format.number,
+            frame_length: 0,
+            waiting: (self.format.K - 1 + more) as u64,
         }
     }
 }
@@ -143,35 +199,62 @@ pub struct Buffers {
     codeword: Vec<u8>,
     labels: Vec<u8>,
     frame: Vec<u16>,
+    waiting: Vec<u8>,
+    block: Vec<u8>,
 }
 
 impl Buffers {
-    /// Filled with a value that no call writes.
+    /// Filled with a value that no call writes, but what waits with bits.
     pub fn new(format: &Format) -> Buffers {
         Buffers {
             work: vec![u8::MAX; format.I],
             codeword: vec![u8::MAX; format.N],
             labels: vec![u8::MAX; SECTION],
             frame: vec![u16::MAX; FRAME_SLOTS],
+            waiting: seeded_block(3, MEMORY),
+            block: vec![u8::MAX; format.K],
+        }
+    }
+}
+
+/// What a call answers.
+#[derive(PartialEq, Eq)]
+pub enum Answer {
+    Number(u8),
+    Comparison(Comparison),
+    Slicer(SlicerAnswer),
+    Block(BlockAnswer),
+}
+
+impl Answer {
+    fn number(&self) -> u64 {
+        match self {
+            Answer::Number(number) => u64::from(*number),
+            Answer::Comparison(answer) => answer.number,
+            Answer::Slicer(answer) => answer.number,
+            Answer::Block(answer) => answer.number,
         }
     }
 }
 
 /// One call of one side.
-pub fn make(call: Call, side: &impl Side, a: &Arguments, b: &mut Buffers) -> Comparison {
+pub fn make(call: Call, side: &impl Side, a: &Arguments, b: &mut Buffers) -> Answer {
     let format = a.format.number;
-    let number = match call {
-        Call::Encode => side.encode(format, &a.block, &mut b.work, &mut b.codeword),
-        Call::Labels => side.labels(format, &a.codeword, &mut b.labels),
-        Call::Frame => side.frame(format, &a.frame_labels, &mut b.frame),
-        Call::CompareSame => return side.compare(format, &a.labels, &a.equal_labels),
-        Call::CompareDiffer => return side.compare(format, &a.labels, &a.changed_labels),
+    let compare = |other| Answer::Comparison(side.compare(format, &a.labels, other));
+    let push = |frame, waiting| Answer::Slicer(side.push(a.slicer(0), frame, waiting));
+    let block = |octets, waiting, out| {
+        Answer::Block(side.block(a.slicer(marked_bits(octets)), waiting, out))
     };
-    Comparison {
-        number: number.into(),
-        same: 0,
-        count: 0,
-        first: 0,
+    match call {
+        Call::Encode => Answer::Number(side.encode(format, &a.block, &mut b.work, &mut b.codeword)),
+        Call::Labels => Answer::Number(side.labels(format, &a.codeword, &mut b.labels)),
+        Call::Frame => Answer::Number(side.frame(format, &a.frame_labels, &mut b.frame)),
+        Call::CompareSame => compare(&a.equal_labels),
+        Call::CompareDiffer => compare(&a.changed_labels),
+        Call::PushUsual => push(&a.usual_frame, &mut b.waiting),
+        Call::PushLongest => push(&a.longest_frame, &mut b.waiting),
+        Call::BlockUsual => block(USUAL, &mut b.waiting, &mut b.block),
+        Call::BlockLongest => block(LONGEST, &mut b.waiting, &mut b.block),
     }
 }
 
@@ -182,5 +265,5 @@ pub fn agree(call: Call, plain: &Plain, a: &Arguments) -> bool {
         make(call, &Library, a, &mut buffers[0]),
         make(call, plain, a, &mut buffers[1]),
     ];
-    answers[0] == answers[1] && answers[0].number == 0 && buffers[0] == buffers[1]
+    answers[0] == answers[1] && answers[0].number() == 0 && buffers[0] == buffers[1]
 }

@@ -1,7 +1,8 @@
 //! A plain encoder to time the library against: the same calls with the same
 //! checks, all tables made beforehand, ordinary loops.
 
-use interface::Comparison;
+use crate::slicer::PlainSlicer;
+use interface::{BlockAnswer, Comparison, Slicer, SlicerAnswer};
 use oracle::annex_c::AnnexC;
 use oracle::framing::{FRAME_LABELS, FRAME_SLOTS};
 use oracle::tables::{Format, SECTION};
@@ -41,9 +42,11 @@ impl Tables {
     }
 }
 
-/// The tables of some formats, each at its format's number.
+/// The tables of some formats, each at its format's number, and those of the
+/// slicer.
 pub struct Plain {
     tables: Vec<Option<Tables>>,
+    slicer: PlainSlicer,
 }
 
 impl Plain {
@@ -54,7 +57,10 @@ impl Plain {
             tables.resize_with(tables.len().max(at + 1), || None);
             tables[at] = Some(Tables::new(f, annex_c));
         }
-        Plain { tables }
+        Plain {
+            tables,
+            slicer: PlainSlicer::new(),
+        }
     }
 
     fn tables(&self, format: u64) -> Option<&Tables> {
@@ -147,6 +153,24 @@ impl Plain {
         let first = a.iter().zip(b).position(|(a, b)| a != b);
         comparison(0, 0, count as u64, first.unwrap_or(0) as u64)
     }
+
+    pub fn push(&self, slicer: Slicer, frame: &[u8], waiting: &mut [u8]) -> SlicerAnswer {
+        match self.tables(slicer.format) {
+            Some(t) => self.slicer.push(t.format.K, slicer, frame, waiting),
+            None => SlicerAnswer { number: 1, slicer },
+        }
+    }
+
+    pub fn block(&self, slicer: Slicer, waiting: &mut [u8], out: &mut [u8]) -> BlockAnswer {
+        match self.tables(slicer.format) {
+            Some(t) => self.slicer.block(t.format.K, slicer, waiting, out),
+            None => BlockAnswer {
+                number: 1,
+                wait: 0,
+                slicer,
+            },
+        }
+    }
 }
 
 fn comparison(number: u64, same: u64, count: u64, first: u64) -> Comparison {
@@ -164,7 +188,7 @@ fn top_label(format: &Format) -> u8 {
 
 /// Looks at every element, whatever the first ones are: this way the compiler
 /// takes many at once.
-fn all_at_most(list: &[u8], top: u8) -> bool {
+pub fn all_at_most(list: &[u8], top: u8) -> bool {
     list.iter().fold(0, |most, &x| most.max(x)) <= top
 }
 
