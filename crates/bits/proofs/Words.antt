@@ -1,6 +1,6 @@
 -- Laws of bits that are packed in words.
 use mathlib.Core.Path.{_≡_, refl, ap}
-use mathlib.Core.List.{List, [], _∷_, _++_}
+use mathlib.Core.List.{List, [], _∷_, _++_, append-assoc}
 use Prim.Native.Nat.{ℕ, zero, suc, _+_, _-_, _*_, _/_, _%_, _^_, _≤_, _<_}
 use native.Mathlib.Omega.{arith}
 use lib.Bits.{bitXor}
@@ -48,3 +48,8 @@ unfolding unpacked
 length-unpacked width [] = omega arith
 length-unpacked width (word ∷ words) =
     omega (arith, length-append (bitsOf width word) (unpacked width words), length-bits width word, length-unpacked width words)
+
+pub unpacked-append : (width : ℕ) (a b : List ℕ) → unpacked width (a ++ b) ≡ unpacked width a ++ unpacked width b
+unfolding unpacked
+unpacked-append width [] b = refl
+unpacked-append width (x ∷ a) b = rw (unpacked-append width a b, append-assoc)

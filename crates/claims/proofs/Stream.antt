@@ -18,7 +18,7 @@ use Rattle.bits.proofs.Legal.{legal-append, legal-rest}
 use Rattle.bits.proofs.Lists.{joined-last}
 use Rattle.acm.specs.Formats.{isFormat}
 use Rattle.transfer.specs.Transfer.{syncMarked, stream}
-use Rattle.transfer.proofs.Stored.{marked-length, marked-bits, stream-last}
+use Rattle.transfer.proofs.Marked.{marked-length, marked-bits, stream-last}
 use Rattle.waiting.specs.Waiting.{memoryLength, waitingBits, waitingNumber, behind, advanced}
 use Rattle.waiting.proofs.Waiting.{behind-waits, behind-length, advanced-waits, advanced-length}
 use Rattle.slicer.specs.declared.Slicer.{Slicer}

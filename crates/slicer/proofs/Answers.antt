@@ -11,8 +11,9 @@ use lib.Seq.{sets, sets-eq}
 use Rattle.bits.specs.Checks.{passed}
 use Rattle.bits.specs.Choice.{if_then_else_}
 use Rattle.bits.proofs.Cases.{by-cases}
-use Rattle.transfer.specs.Transfer.{octetLength, markerLength, syncMarked}
-use Rattle.transfer.proofs.Stored.{marked-length}
+use Rattle.randomizer.specs.Randomizer.{octetLength}
+use Rattle.transfer.specs.Transfer.{markerLength, syncMarked}
+use Rattle.transfer.proofs.Marked.{marked-length}
 use Rattle.waiting.specs.Waiting.{advanced, behind}
 use Rattle.slicer.specs.declared.Slicer.{Slicer}
 use Rattle.slicer.specs.declared.Answer.{Answer}

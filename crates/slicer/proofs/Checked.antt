@@ -13,7 +13,8 @@ use Rattle.bits.proofs.Passed.{passes}
 use Rattle.bits.proofs.Table.{right-true}
 use Rattle.acm.specs.Formats.{isFormat}
 use Rattle.acm.proofs.Laws.{within}
-use Rattle.transfer.specs.Transfer.{octetLength, markerLength}
+use Rattle.randomizer.specs.Randomizer.{octetLength}
+use Rattle.transfer.specs.Transfer.{markerLength}
 use Rattle.waiting.specs.Waiting.{memoryLength, waitingBits}
 use Rattle.slicer.specs.declared.Slicer.{Slicer}
 use Rattle.slicer.specs.Calls.{leastFrame, mostFrame, K, pushChecks, pushNumber, blockChecks, blockNumber}

@@ -3,8 +3,8 @@ ghost use mathlib.Core.Path.{_≡_};
 ghost use lib.ListN.{length};
 ghost use Rattle.slicer.specs.Calls.{fresh, fitsChannel, pushNumber, pushed, pushMemory, blockNumber, answerOf, sliced, blockMemory, blockOutput};
 use bits::checks;
+use randomizer::steps::OCTET_LENGTH;
 use transfer::steps::MARKER_LENGTH;
-use transfer::steps::OCTET_LENGTH;
 
 // Octets of the shortest and of the longest transfer frame (004, 3.2.2).
 const LEAST_FRAME: usize = 223;

@@ -1,3 +1,1 @@
-pub mod Printed
-pub mod Randomized
-pub mod Stored
+pub mod Marked

@@ -1,3 +1,3 @@
-// Transfer frames on the channel (000, 3.2 and 3.3): synchronization marker and pseudo-randomizer.
-mod masks;
+// Transfer frames on the channel (000, 3.3): the synchronization marker, and behind it the randomized frame.
 pub mod steps;
+mod tables;

@@ -5,7 +5,8 @@ use native.Mathlib.Omega.{arith}
 use borrow.Author.Needs.{needs}
 use lib.ListN.{length}
 use Rattle.bits.specs.Checks.{passed}
-use Rattle.transfer.specs.Transfer.{octetLength, markerLength}
+use Rattle.randomizer.specs.Randomizer.{octetLength}
+use Rattle.transfer.specs.Transfer.{markerLength}
 use Rattle.waiting.specs.Waiting.{memoryLength}
 use Rattle.slicer.specs.Calls.{pushNumber}
 use Rattle.slicer.proofs.Answers.{push-refused, push-done}

@@ -3,7 +3,7 @@ use mathlib.Core.Path.{_≡_, refl}
 use mathlib.Core.List.{List, [], _∷_, _++_}
 use Prim.Native.Nat.{ℕ, _+_}
 use Rattle.bits.proofs.Sequences.{sequence-append}
-use Rattle.transfer.specs.Transfer.{h, allOnes, pseudoRandom}
+use Rattle.randomizer.specs.Randomizer.{h, allOnes, pseudoRandom}
 
 -- the forty bits that 3.2 prints
 abbrev pub printed : List ℕ

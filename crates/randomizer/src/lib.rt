@@ -1,0 +1,2 @@
+// The pseudo-randomizer (000, 3.2).
+pub mod steps;
