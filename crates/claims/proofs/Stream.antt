@@ -22,7 +22,7 @@ use Rattle.transfer.proofs.Marked.{marked-length, marked-bits, stream-last}
 use Rattle.waiting.specs.Waiting.{memoryLength, waitingBits, waitingNumber, behind, advanced}
 use Rattle.waiting.proofs.Waiting.{behind-waits, behind-length, advanced-waits, advanced-length}
 use Rattle.slicer.specs.declared.Slicer.{Slicer}
-use Rattle.slicer.specs.Calls.{K, withFrame, withoutBlock, pushNumber, pushed, pushMemory, blockNumber, BlockAnswer, sliced, handsOut, blockMemory, blockOutput}
+use Rattle.slicer.specs.Calls.{K, withFrame, withoutBlock, pushNumber, pushed, pushMemory, blockNumber, sliced, blockMemory, blockOutput}
 use Rattle.slicer.proofs.Checked.{PushPassed, push-passed, frame-fits, BlockPassed, block-passed}
 use Rattle.slicer.proofs.Exits.{push-last, block-fits}
 use Rattle.slicer.proofs.Answers.{Handed, hands-out, hands-none}
@@ -73,7 +73,7 @@ block-either : (P : Channel → Type 0) (c : Channel) (out : List ℕ) → c .sl
     → (Handed (c .slicer) (c .memory) (length out) → P (given c)) → P (call c (Block out))
 unfolding blockMemory blockOutput
 block-either P c out there same more =
-    by-cases (handsOut (sliced (c .slicer) (c .memory) (length out)))
+    by-cases (sliced (c .slicer) (c .memory) (length out) .block)
     (λ t. let h = hands-out (c .slicer) (c .memory) (length out) t in
     let k = K (c .slicer) in
     let first : take k (take k (c .memory) ++ drop k out) ≡ take k (c .memory) =

@@ -13,7 +13,7 @@ use Rattle.acm.specs.Formats.{isFormat}
 use Rattle.transfer.specs.Transfer.{stream}
 use Rattle.waiting.specs.Waiting.{memoryLength, waitingBits}
 use Rattle.slicer.specs.declared.Slicer.{Slicer}
-use Rattle.slicer.specs.Calls.{leastFrame, mostFrame, fresh, K, fitsChannel, pushNumber, pushed, pushMemory, blockNumber, sliced, handsOut, blockMemory, blockOutput}
+use Rattle.slicer.specs.Calls.{leastFrame, mostFrame, fresh, K, fitsChannel, pushNumber, pushed, pushMemory, blockNumber, sliced, blockMemory, blockOutput}
 
 -- a call, with its arguments besides slicer and memory: a transfer frame, or an output as it is lent
 pub data Call : Type 0 where
@@ -47,7 +47,7 @@ call c (Block out) =
       slicer = answer .slicer;
       memory = blockMemory (c .slicer) (c .memory) (length out);
       frames = c .frames;
-      blocks = if handsOut answer then c .blocks ++ (take (K (c .slicer)) (blockOutput (c .slicer) (c .memory) out) ∷ []) else c .blocks;
+      blocks = if answer .block then c .blocks ++ (take (K (c .slicer)) (blockOutput (c .slicer) (c .memory) out) ∷ []) else c .blocks;
     }
 
 abbrev pub calls : Channel → List Call → Channel

@@ -17,7 +17,7 @@ use Rattle.transfer.proofs.Marked.{marked-length}
 use Rattle.waiting.specs.Waiting.{advanced, behind}
 use Rattle.slicer.specs.declared.Slicer.{Slicer}
 use Rattle.slicer.specs.declared.Answer.{Answer}
-use Rattle.slicer.specs.Calls.{K, withoutBlock, pushNumber, pushed, pushMemory, blockNumber, BlockAnswer, sliced, handsOut, blockMemory, blockOutput}
+use Rattle.slicer.specs.Calls.{K, withoutBlock, pushNumber, pushed, pushMemory, blockNumber, BlockAnswer, handed, waits, refused, sliced, blockMemory, blockOutput}
 use Rattle.slicer.proofs.Checked.{PushPassed, push-passed, frame-fits}
 
 module _ (s : Slicer) (frame memory : List ℕ) where
@@ -45,17 +45,17 @@ module _ (s : Slicer) (memory out : List ℕ) where
       (answer ≡ sliced s memory (length out)) × ((memory′ ≡ blockMemory s memory (length out)) × (out′ ≡ blockOutput s memory out))
 
   pub block-refused : (blockNumber s memory (length out) ≡ passed → ⊥)
-      → Ends (record { number = blockNumber s memory (length out); wait = false; slicer = s }) memory out
+      → Ends (refused (blockNumber s memory (length out)) s) memory out
   unfolding sliced blockMemory blockOutput
   block-refused n = (simp (ne-eqb _ _ n), (simp (ne-eqb _ _ n), simp (ne-eqb _ _ n)))
 
   module _ (e : blockNumber s memory (length out) ≡ passed) where
-    pub block-waits : s .waiting < K s → Ends (record { number = passed; wait = true; slicer = s }) memory out
+    pub block-waits : s .waiting < K s → Ends (waits s) memory out
     unfolding sliced blockMemory blockOutput
     block-waits few = (rw (e, lt-ltb _ _ few), (rw (e, lt-ltb _ _ few), rw (e, lt-ltb _ _ few)))
 
     pub block-done : K s ≤ s .waiting
-        → Ends (record { number = passed; wait = false; slicer = withoutBlock s }) (advanced (K s) (s .waiting - K s) memory) (take (K s) memory ++ drop (K s) out)
+        → Ends (handed (withoutBlock s)) (advanced (K s) (s .waiting - K s) memory) (take (K s) memory ++ drop (K s) out)
     unfolding sliced blockMemory blockOutput
     block-done enough = (rw (e, le-ltb _ _ enough), (rw (e, le-ltb _ _ enough), rw (e, le-ltb _ _ enough)))
 
@@ -66,7 +66,7 @@ module _ (s : Slicer) (memory : List ℕ) (room : ℕ) where
     pub enough : K s ≤ s .waiting
     pub after : sliced s memory room .slicer ≡ withoutBlock s
 
-  pub hands-out : handsOut (sliced s memory room) ≡ true → Handed
+  pub hands-out : sliced s memory room .block ≡ true → Handed
   unfolding sliced
   hands-out h =
       by-cases (eqb (blockNumber s memory room) passed)
@@ -75,7 +75,7 @@ module _ (s : Slicer) (memory : List ℕ) (room : ℕ) where
       (λ enough. record { number = eqb-true _ _ t; enough = ltb-false _ _ enough; after = rw (t, enough) }))
       (λ f. absurd (false≢true (simp f at h)))
 
-  pub hands-none : handsOut (sliced s memory room) ≡ false → sliced s memory room .slicer ≡ s
+  pub hands-none : sliced s memory room .block ≡ false → sliced s memory room .slicer ≡ s
   unfolding sliced
   hands-none h =
       by-cases (eqb (blockNumber s memory room) passed)

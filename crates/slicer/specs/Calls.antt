@@ -72,35 +72,41 @@ blockNumber s memory room = firstFailed (blockChecks s memory room)
 abbrev pub withoutBlock : Slicer → Slicer
 withoutBlock s = record { format = s .format; octets = s .octets; waiting = s .waiting - K s }
 
--- an answer, as document 02 numbers it: "wait" has the number 0
+-- an answer, as document 02 numbers it: a block is handed out, or "wait" said, which has the number 0 too, or the call is refused
 pub record BlockAnswer : Type 0 where
   pub number : ℕ
+  pub block : Bool
   pub wait : Bool
   pub slicer : Slicer
 
+abbrev pub handed : Slicer → BlockAnswer
+handed s = record { number = passed; block = true; wait = false; slicer = s }
+
+abbrev pub waits : Slicer → BlockAnswer
+waits s = record { number = passed; block = false; wait = true; slicer = s }
+
+abbrev pub refused : ℕ → Slicer → BlockAnswer
+refused number s = record { number = number; block = false; wait = false; slicer = s }
+
 abbrev pub answerOf : Sliced → BlockAnswer
-answerOf (Block s) = record { number = passed; wait = false; slicer = s }
-answerOf (Wait s) = record { number = passed; wait = true; slicer = s }
-answerOf (Refused a) = record { number = a .number; wait = false; slicer = a .slicer }
+answerOf (Block s) = handed s
+answerOf (Wait s) = waits s
+answerOf (Refused a) = refused (a .number) (a .slicer)
 
 unfoldable pub sliced : Slicer → List ℕ → ℕ → BlockAnswer
 sliced s memory room =
-    if not (eqb (blockNumber s memory room) passed) then record { number = blockNumber s memory room; wait = false; slicer = s }
-    else if ltb (s .waiting) (K s) then record { number = passed; wait = true; slicer = s }
-    else record { number = passed; wait = false; slicer = withoutBlock s }
-
--- whether a block is handed out
-abbrev pub handsOut : BlockAnswer → Bool
-handsOut a = eqb (a .number) passed && not (a .wait)
+    if not (eqb (blockNumber s memory room) passed) then refused (blockNumber s memory room) s
+    else if ltb (s .waiting) (K s) then waits s
+    else handed (withoutBlock s)
 
 unfoldable pub blockMemory : Slicer → List ℕ → ℕ → List ℕ
 blockMemory s memory room =
-    if handsOut (sliced s memory room)
+    if sliced s memory room .block
     then advanced (K s) (s .waiting - K s) memory
     else memory
 
 unfoldable pub blockOutput : Slicer → List ℕ → List ℕ → List ℕ
 blockOutput s memory out =
-    if handsOut (sliced s memory (length out))
+    if sliced s memory (length out) .block
     then take (K s) memory ++ drop (K s) out
     else out
