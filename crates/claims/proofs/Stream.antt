@@ -1,29 +1,26 @@
 -- What holds of a channel before a call holds of it afterwards, whatever the call.
-use mathlib.Core.Path.{_≡_, refl, sym, ap, subst, _∙_}
-use mathlib.Core.Bool.{Bool, true, false, false≢true}
+use mathlib.Core.Path.{_≡_, refl, sym, ap, _∙_}
+use mathlib.Core.Bool.{true, false, false≢true}
 use mathlib.Core.List.{List, [], _∷_, _++_, append-assoc}
-use mathlib.Core.Logic.{_↔_}
-use Prim.Native.Nat.{ℕ, _+_, _-_, _≤_, _<_}
+use Prim.Native.Nat.{ℕ, _+_, _-_, _≤_}
 use native.Mathlib.Omega.{arith}
 use borrow.Author.Tests.{lt-ltb, ltb-true, le-leb, eqb-true}
 use lib.Dec.{eqb, ltb}
 use lib.ListN.{length, take, drop}
 use lib.Seq.{take-at, length-take-le}
 use Rattle.bits.specs.Checks.{passed}
-use Rattle.bits.specs.Choice.{if_then_else_}
 use Rattle.bits.specs.Joined.{joined}
 use Rattle.bits.specs.Legal.{allBits}
 use Rattle.bits.proofs.Cases.{by-cases}
 use Rattle.bits.proofs.Legal.{legal-append, legal-rest}
 use Rattle.bits.proofs.Lists.{joined-last}
 use Rattle.acm.specs.Formats.{isFormat}
-use Rattle.transfer.specs.Transfer.{syncMarked, stream}
+use Rattle.transfer.specs.Transfer.{syncMarked}
 use Rattle.transfer.proofs.Marked.{marked-length, marked-bits, stream-last}
 use Rattle.waiting.specs.Waiting.{memoryLength, waitingBits, waitingNumber, behind, advanced}
 use Rattle.waiting.proofs.Waiting.{behind-waits, behind-length, advanced-waits, advanced-length}
-use Rattle.slicer.specs.declared.Slicer.{Slicer}
-use Rattle.slicer.specs.Calls.{K, withFrame, withoutBlock, pushNumber, pushed, pushMemory, blockNumber, sliced, blockMemory, blockOutput}
-use Rattle.slicer.proofs.Checked.{PushPassed, push-passed, frame-fits, BlockPassed, block-passed}
+use Rattle.slicer.specs.Calls.{K, withFrame, withoutBlock, pushNumber, pushed, pushMemory, sliced, blockMemory, blockOutput}
+use Rattle.slicer.proofs.Checked.{PushPassed, push-passed, frame-fits}
 use Rattle.slicer.proofs.Exits.{push-last, block-fits}
 use Rattle.slicer.proofs.Answers.{Handed, hands-out, hands-none}
 use Rattle.claims.specs.Stream.{Call, Push, Block, Channel, begun, call, calls, InOrder, Streams, Waits, Open, StaysOpen, Slicing}

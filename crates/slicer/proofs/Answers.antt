@@ -1,6 +1,6 @@
 -- What a call answers and leaves in each buffer, for each way in which it can end.
 use mathlib.Core.Path.{_≡_, sym, _∙_}
-use mathlib.Core.Bool.{true, false, not, false≢true}
+use mathlib.Core.Bool.{true, false, false≢true}
 use mathlib.Core.List.{List, _++_}
 use Prim.Native.Nat.{ℕ, _+_, _-_, _*_, _≤_, _<_}
 use native.Mathlib.Omega.{arith}
@@ -8,17 +8,16 @@ use borrow.Author.Tests.{lt-ltb, le-ltb, ltb-false, ne-eqb, eqb-true}
 use lib.Dec.{eqb, ltb}
 use lib.ListN.{length, take, drop}
 use lib.Seq.{sets, sets-eq}
-use Rattle.bits.specs.Checks.{passed}
-use Rattle.bits.specs.Choice.{if_then_else_}
+use Rattle.bits.specs.Checks.{passed, badFormat}
 use Rattle.bits.proofs.Cases.{by-cases}
+use Rattle.acm.specs.Formats.{isFormat}
 use Rattle.randomizer.specs.Randomizer.{octetLength}
 use Rattle.transfer.specs.Transfer.{markerLength, syncMarked}
 use Rattle.transfer.proofs.Marked.{marked-length}
-use Rattle.waiting.specs.Waiting.{advanced, behind}
+use Rattle.waiting.specs.Waiting.{advanced}
 use Rattle.slicer.specs.declared.Slicer.{Slicer}
-use Rattle.slicer.specs.declared.Answer.{Answer}
 use Rattle.slicer.specs.Calls.{K, withoutBlock, pushNumber, pushed, pushMemory, blockNumber, BlockAnswer, handed, waits, refused, sliced, blockMemory, blockOutput}
-use Rattle.slicer.proofs.Checked.{PushPassed, push-passed, frame-fits}
+use Rattle.slicer.proofs.Checked.{push-passed, frame-fits}
 
 module _ (s : Slicer) (frame memory : List ℕ) where
   pub push-refused : (pushNumber s (length frame) memory ≡ passed → ⊥)
@@ -43,6 +42,10 @@ module _ (s : Slicer) (memory out : List ℕ) where
   abbrev pub Ends : BlockAnswer → List ℕ → List ℕ → Type 0
   Ends answer memory′ out′ =
       (answer ≡ sliced s memory (length out)) × ((memory′ ≡ blockMemory s memory (length out)) × (out′ ≡ blockOutput s memory out))
+
+  pub block-no-format : isFormat (s .format) ≡ false → Ends (refused badFormat s) memory out
+  unfolding sliced blockNumber blockMemory blockOutput
+  block-no-format none = (rw none, (rw none, rw none))
 
   pub block-refused : (blockNumber s memory (length out) ≡ passed → ⊥)
       → Ends (refused (blockNumber s memory (length out)) s) memory out

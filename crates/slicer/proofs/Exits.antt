@@ -1,5 +1,5 @@
 -- The number of a call, from the checks that led to its return.
-use mathlib.Core.Path.{_≡_, refl, sym, ap, _∙_}
+use mathlib.Core.Path.{_≡_, refl, sym}
 use mathlib.Core.Bool.{true, false}
 use mathlib.Core.List.{List, [], _∷_}
 use Prim.Native.Nat.{ℕ, _≤_, _<_}
@@ -42,10 +42,6 @@ module _ (s : Slicer) (octets : ℕ) (memory : List ℕ) where
           push-last h = simp (known, le-leb _ _ least, le-leb _ _ most, fits, lt-ltb _ _ h)
 
 module _ (s : Slicer) (memory : List ℕ) (room : ℕ) where
-  pub block-no-format : isFormat (s .format) ≡ false → badFormat ≡ blockNumber s memory room
-  unfolding blockNumber
-  block-no-format h = rw h
-
   -- the output's check comes last
   abbrev last : List Check
   last = leb (K s) room or-else shortOutput ∷ []

@@ -1,7 +1,9 @@
 // The slicer (000, 3.4): transfer frames in, information blocks out. Between the two the bits wait in memory that the caller lends.
 ghost use mathlib.Core.Path.{_≡_};
+ghost use mathlib.Core.Bool.{true};
 ghost use lib.ListN.{length};
-ghost use Rattle.slicer.specs.Calls.{fresh, fitsChannel, pushNumber, pushed, pushMemory, blockNumber, answerOf, sliced, blockMemory, blockOutput};
+ghost use Rattle.acm.specs.Formats.{isFormat};
+ghost use Rattle.slicer.specs.Calls.{fresh, K, fitsChannel, pushNumber, pushed, pushMemory, blockNumber, answerOf, sliced, blockMemory, blockOutput};
 use bits::checks;
 use randomizer::steps::OCTET_LENGTH;
 use transfer::steps::MARKER_LENGTH;
@@ -110,11 +112,17 @@ pub fn block(slicer: Slicer, memory: &mut [u8], out: &mut [u8]) -> Sliced
     ensures memory { λ _. ⌜ now (memory .exit) ≡ blockMemory slicer (now (memory .entry)) (length (now (out .entry))) ⌝ }
     ensures output { λ _. ⌜ now (out .exit) ≡ blockOutput slicer (now (memory .entry)) (now (out .entry)) ⌝ }
 {
-    let number = check_block(slicer, memory, out.len());
+    let acm::Found::Record(f) = acm::lookup(slicer.format) else {
+        return Sliced::Refused(Answer {
+            number: checks::FORMAT,
+            slicer,
+        });
+    };
+    let k = f.k;
+    let number = check_block(slicer, k, memory, out.len());
     if number != checks::PASSED {
         return Sliced::Refused(Answer { number, slicer });
     }
-    let k = acm::steps::parameters(slicer.format).k;
     if slicer.waiting < k {
         return Sliced::Wait(slicer);
     }
@@ -128,18 +136,16 @@ pub fn block(slicer: Slicer, memory: &mut [u8], out: &mut [u8]) -> Sliced
     })
 }
 
-// The number of the first check of block that fails, 0 if none does.
-fn check_block(slicer: Slicer, memory: &[u8], room: usize) -> u8
+// The number of the first check of block that fails in a format that there is, 0 if none does: a block has k bits.
+fn check_block(slicer: Slicer, k: usize, memory: &[u8], room: usize) -> u8
+    requires { ⌜ (isFormat (slicer .format) ≡ true) × (k ≡ K slicer) ⌝ }
     ensures { λ r. ⌜ r ≡ blockNumber slicer (now (memory .entry)) room ⌝ }
 {
-    let acm::Found::Record(f) = acm::lookup(slicer.format) else {
-        return checks::FORMAT;
-    };
     let number = waiting::check(slicer.waiting, memory);
     if number != checks::PASSED {
         return number;
     }
-    if room < f.k {
+    if room < k {
         return checks::OUTPUT;
     }
     checks::PASSED

@@ -1,7 +1,7 @@
 // Opened to the slicer alone: the first of the waiting bits handed out.
 ghost use mathlib.Core.Path.{_≡_};
 ghost use mathlib.Core.List.{_++_};
-ghost use Prim.Native.Nat.{_+_, _-_, _≤_};
+ghost use Prim.Native.Nat.{_+_, _≤_};
 ghost use lib.ListN.{length, take, drop};
 ghost use Rattle.waiting.specs.Waiting.{advanced};
 

@@ -2,7 +2,6 @@
 use mathlib.Core.Path.{refl}
 use Prim.Native.Nat.{_<_}
 use native.Mathlib.Omega.{arith}
-use borrow.Author.Needs.{needs}
 use lib.Bits.{bitXor, xor-lt}
 use Rattle.randomizer.proofs.steps.add_mask.Statement.{statement}
 use Rattle.randomizer.proofs.steps.add_mask.Tie as tie
