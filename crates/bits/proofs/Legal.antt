@@ -1,12 +1,13 @@
 -- Laws of the scan for illegal elements.
-use mathlib.Core.Path.{_≡_, refl, sym}
+use mathlib.Core.Path.{_≡_, refl, sym, ap, _∙_}
 use mathlib.Core.Bool.{Bool, true, false, _&&_, false≢true}
 use mathlib.Core.List.{List, [], _∷_, _++_}
-use Prim.Native.Nat.{ℕ, zero, suc, zero-le, _+_, _≤_, _<_}
+use Prim.Native.Nat.{ℕ, zero, suc, zero-le, _+_, _-_, _≤_, _<_}
 use native.Mathlib.Omega.{arith}
 use borrow.Author.Tests.{le-leb, leb-true}
 use lib.Dec.{leb}
-use lib.ListN.{length, getD, drop, drop-of-length-le}
+use lib.ListN.{length, getD, take, drop, drop-of-length-le, take-append-drop}
+use lib.Seq.{drop-drop}
 use Rattle.bits.specs.Legal.{allAtMost}
 use Rattle.bits.proofs.Cases.{by-cases}
 use Rattle.bits.proofs.Lists.{drop-next}
@@ -18,6 +19,28 @@ and-false false = refl
 and-true : (b : Bool) → (b && true) ≡ b
 and-true true = refl
 and-true false = refl
+
+-- a list from a place on, whose next stretch is legal or not
+legal-both : (top : ℕ) (a b : List ℕ) → allAtMost top (a ++ b) ≡ (allAtMost top a && allAtMost top b)
+legal-both top [] b = refl
+legal-both top (x ∷ a) b = by-cases (leb x top) (λ e. rw e (legal-both top a b)) (λ e. rw e)
+
+module _ (top : ℕ) (l : List ℕ) (from to : ℕ) (h : from ≤ to) where
+  abbrev stretch : List ℕ
+  stretch = take (to - from) (drop from l)
+
+  parts : allAtMost top (drop from l) ≡ (allAtMost top stretch && allAtMost top (drop to l))
+  parts =
+      let past : from + (to - from) ≡ to = omega arith in
+      ap (allAtMost top) (sym (take-append-drop (to - from) (drop from l)))
+      ∙ legal-both top stretch (drop (to - from) (drop from l))
+      ∙ ap (λ (r : List ℕ). allAtMost top stretch && allAtMost top r) (drop-drop (to - from) from l ∙ ap (λ (n : ℕ). drop n l) past)
+
+  pub legal-past : allAtMost top stretch ≡ true → allAtMost top (drop from l) ≡ allAtMost top (drop to l)
+  legal-past e = parts ∙ ap (λ (b : Bool). b && allAtMost top (drop to l)) e
+
+  pub illegal-here : allAtMost top stretch ≡ false → allAtMost top (drop from l) ≡ false
+  illegal-here e = parts ∙ ap (λ (b : Bool). b && allAtMost top (drop to l)) e
 
 -- a list whose largest element so far is m: one more element, above m or not
 pub larger-next : (top m : ℕ) (l : List ℕ) (i : ℕ) → i < length l → m < getD l i 0
