@@ -1,18 +1,20 @@
 -- What holds of every format's record, from one test over table 4-3.
 use mathlib.Core.Path.{_≡_, refl, sym, ap, subst}
 use mathlib.Core.Bool.{Bool, true, false}
-use mathlib.Core.List.{List, [], _∷_}
+use mathlib.Core.List.{List, [], _∷_, map}
 use Prim.Native.Nat.{ℕ, suc, _+_, _-_, _*_, _%_, _≤_, _<_}
 use native.Mathlib.Omega.{arith}
 use borrow.Author.Tests.{leb-true, ltb-true, eqb-true}
 use lib.Dec.{leb, ltb, eqb, lit<}
-use lib.ListN.{getD}
+use lib.ListN.{getD, List·getD-map}
 use Rattle.bits.specs.Checks.{passed, badFormat}
 use Rattle.bits.proofs.Cases.{by-cases}
 use Rattle.bits.proofs.Table.{left-true, right-true, every, every-at, below, below-at}
 use Rattle.acm.specs.declared.table.Format.{Format}
+use Rattle.acm.specs.declared.table.Row.{Row}
 use Rattle.acm.specs.declared.Found.the-variants.{Record, NoFormat}
 use Rattle.acm.specs.Formats.{M, symbols, formats, formatOf, none, lastFormat, isFormat, mostK, mostI, mostN, Answer, answerOf, lookedUp}
+use Rattle.acm.specs.Table.{recordOf}
 
 pub record Sound (r : Format) : Type 0 where
   pub outer : 2 * r .i ≡ 3 * (r .k + 2)
@@ -73,6 +75,13 @@ unfolding formatOf
 record-at f low =
     let e : f ≡ suc (f - 1) = omega arith in
     subst (λ (n : ℕ). getD formats (f - 1) none ≡ getD (none ∷ formats) n none) (sym e) refl
+
+-- a record as a row; the rows of all records have each at its place
+abbrev pub rowOf : Format → Row
+rowOf r = record { m = r .m; k = r .k; i = r .i; w = r .w; n = r .n; survivors = r .survivors; s = r .s; delta = r .delta }
+
+pub row-at : (g : ℕ) → recordOf (getD (map rowOf formats) g (rowOf none)) ≡ getD formats g none
+row-at g = ap recordOf (List·getD-map rowOf formats g none)
 
 module _ (f : ℕ) (h : isFormat f ≡ true) where
   part : (k : ℕ) → k < 12 → getD (tests (formatOf f)) k true ≡ true

@@ -10,5 +10,6 @@ pub fn parameters(format: u64) -> Format
     ensures { λ r. ⌜ r ≡ formatOf format ⌝ }
 {
     let at = (format - 1) as usize;
-    table::FORMATS[at]
+    let row = table::ROWS[at];
+    row.widened()
 }

@@ -1,4 +1,6 @@
-// Table 4-3 of the standard, a record for each ACM format.
+// Table 4-3 of the standard, a row for each ACM format.
+ghost use mathlib.Core.Path.{_≡_};
+ghost use Rattle.acm.specs.Table.{recordOf};
 
 // One line of table 4-3, with W = I / 120. All lengths are in bits.
 pub struct Format {
@@ -20,8 +22,38 @@ pub struct Format {
     pub delta: usize,
 }
 
-pub const FORMATS: [Format; 27] = [
-    Format {
+// The same as the table has it: no number takes more than 16 bits, and a short table is laid out sooner at a lookup.
+pub struct Row {
+    pub m: u16,
+    pub k: u16,
+    pub i: u16,
+    pub w: u16,
+    pub n: u16,
+    pub survivors: u16,
+    pub s: u16,
+    pub delta: u16,
+}
+
+impl Row {
+    // The record that a row stands for.
+    pub fn widened(self) -> Format
+        ensures { λ r. ⌜ r ≡ recordOf self ⌝ }
+    {
+        Format {
+            m: self.m as usize,
+            k: self.k as usize,
+            i: self.i as usize,
+            w: self.w as usize,
+            n: self.n as usize,
+            survivors: self.survivors as usize,
+            s: self.s as usize,
+            delta: self.delta as usize,
+        }
+    }
+}
+
+pub const ROWS: [Row; 27] = [
+    Row {
         m: 2,
         k: 5758,
         i: 8640,
@@ -31,7 +63,7 @@ pub const FORMATS: [Format; 27] = [
         s: 8642,
         delta: 1084,
     },
-    Format {
+    Row {
         m: 2,
         k: 6958,
         i: 10440,
@@ -41,7 +73,7 @@ pub const FORMATS: [Format; 27] = [
         s: 10442,
         delta: 4684,
     },
-    Format {
+    Row {
         m: 2,
         k: 8398,
         i: 12600,
@@ -51,7 +83,7 @@ pub const FORMATS: [Format; 27] = [
         s: 11510,
         delta: 7912,
     },
-    Format {
+    Row {
         m: 2,
         k: 9838,
         i: 14760,
@@ -61,7 +93,7 @@ pub const FORMATS: [Format; 27] = [
         s: 12351,
         delta: 10913,
     },
-    Format {
+    Row {
         m: 2,
         k: 11278,
         i: 16920,
@@ -71,7 +103,7 @@ pub const FORMATS: [Format; 27] = [
         s: 13200,
         delta: 13922,
     },
-    Format {
+    Row {
         m: 2,
         k: 13198,
         i: 19800,
@@ -81,7 +113,7 @@ pub const FORMATS: [Format; 27] = [
         s: 14390,
         delta: 17992,
     },
-    Format {
+    Row {
         m: 3,
         k: 11278,
         i: 16920,
@@ -91,7 +123,7 @@ pub const FORMATS: [Format; 27] = [
         s: 16470,
         delta: 9092,
     },
-    Format {
+    Row {
         m: 3,
         k: 13198,
         i: 19800,
@@ -101,7 +133,7 @@ pub const FORMATS: [Format; 27] = [
         s: 15842,
         delta: 11344,
     },
-    Format {
+    Row {
         m: 3,
         k: 14878,
         i: 22320,
@@ -111,7 +143,7 @@ pub const FORMATS: [Format; 27] = [
         s: 18602,
         delta: 16624,
     },
-    Format {
+    Row {
         m: 3,
         k: 17038,
         i: 25560,
@@ -121,7 +153,7 @@ pub const FORMATS: [Format; 27] = [
         s: 19939,
         delta: 21201,
     },
-    Format {
+    Row {
         m: 3,
         k: 19198,
         i: 28800,
@@ -131,7 +163,7 @@ pub const FORMATS: [Format; 27] = [
         s: 21218,
         delta: 25720,
     },
-    Format {
+    Row {
         m: 3,
         k: 21358,
         i: 32040,
@@ -141,7 +173,7 @@ pub const FORMATS: [Format; 27] = [
         s: 22857,
         delta: 30599,
     },
-    Format {
+    Row {
         m: 4,
         k: 19198,
         i: 28800,
@@ -151,7 +183,7 @@ pub const FORMATS: [Format; 27] = [
         s: 24482,
         delta: 20884,
     },
-    Format {
+    Row {
         m: 4,
         k: 21358,
         i: 32040,
@@ -161,7 +193,7 @@ pub const FORMATS: [Format; 27] = [
         s: 25741,
         delta: 25383,
     },
-    Format {
+    Row {
         m: 4,
         k: 23518,
         i: 35280,
@@ -171,7 +203,7 @@ pub const FORMATS: [Format; 27] = [
         s: 27051,
         delta: 29933,
     },
-    Format {
+    Row {
         m: 4,
         k: 25918,
         i: 38880,
@@ -181,7 +213,7 @@ pub const FORMATS: [Format; 27] = [
         s: 28515,
         delta: 34997,
     },
-    Format {
+    Row {
         m: 4,
         k: 28318,
         i: 42480,
@@ -191,7 +223,7 @@ pub const FORMATS: [Format; 27] = [
         s: 29880,
         delta: 39962,
     },
-    Format {
+    Row {
         m: 5,
         k: 25918,
         i: 38880,
@@ -201,7 +233,7 @@ pub const FORMATS: [Format; 27] = [
         s: 31755,
         delta: 30137,
     },
-    Format {
+    Row {
         m: 5,
         k: 28318,
         i: 42480,
@@ -211,7 +243,7 @@ pub const FORMATS: [Format; 27] = [
         s: 33137,
         delta: 35119,
     },
-    Format {
+    Row {
         m: 5,
         k: 30958,
         i: 46440,
@@ -221,7 +253,7 @@ pub const FORMATS: [Format; 27] = [
         s: 34677,
         delta: 40619,
     },
-    Format {
+    Row {
         m: 5,
         k: 33358,
         i: 50040,
@@ -231,7 +263,7 @@ pub const FORMATS: [Format; 27] = [
         s: 36197,
         delta: 45739,
     },
-    Format {
+    Row {
         m: 5,
         k: 35998,
         i: 54000,
@@ -241,7 +273,7 @@ pub const FORMATS: [Format; 27] = [
         s: 37802,
         delta: 51304,
     },
-    Format {
+    Row {
         m: 6,
         k: 33358,
         i: 50040,
@@ -251,7 +283,7 @@ pub const FORMATS: [Format; 27] = [
         s: 39366,
         delta: 40808,
     },
-    Format {
+    Row {
         m: 6,
         k: 35998,
         i: 54000,
@@ -261,7 +293,7 @@ pub const FORMATS: [Format; 27] = [
         s: 41042,
         delta: 46444,
     },
-    Format {
+    Row {
         m: 6,
         k: 38638,
         i: 57960,
@@ -271,7 +303,7 @@ pub const FORMATS: [Format; 27] = [
         s: 42507,
         delta: 51869,
     },
-    Format {
+    Row {
         m: 6,
         k: 41038,
         i: 61560,
@@ -281,7 +313,7 @@ pub const FORMATS: [Format; 27] = [
         s: 43915,
         delta: 56877,
     },
-    Format {
+    Row {
         m: 6,
         k: 43678,
         i: 65520,
