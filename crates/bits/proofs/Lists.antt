@@ -1,11 +1,11 @@
 -- Lists, from a place on.
-use mathlib.Core.Path.{_≡_, refl, sym, ap, _∙_}
+use mathlib.Core.Path.{_≡_, ap, _∙_}
 use mathlib.Core.List.{List, [], _∷_, _++_, append-assoc, append-nil}
 use Prim.Native.Nat.{ℕ, _+_, _<_}
 use native.Mathlib.Numerals.{add-one}
 use native.Mathlib.Omega.{arith}
-use lib.ListN.{length, getD, take, drop}
-use lib.Seq.{drop-cons, take-at, drop-at}
+use lib.ListN.{length, getD, drop}
+use lib.Seq.{drop-cons}
 use Rattle.bits.specs.Joined.{joined}
 
 -- a list from i on begins with its element at i
@@ -21,10 +21,3 @@ drop-next-two l i h =
 pub joined-last : (lists : List (List ℕ)) (last : List ℕ) → joined (lists ++ (last ∷ [])) ≡ joined lists ++ last
 joined-last [] last = append-nil last
 joined-last (list ∷ lists) last = rw (joined-last lists last, append-assoc)
-
--- one list parted at one place
-pub parted : (a b c d : List ℕ) → length a ≡ length c → a ++ b ≡ c ++ d → (a ≡ c) × (b ≡ d)
-parted a b c d e same = (
-  sym (take-at a b (length c) e) ∙ ap (take (length c)) same ∙ take-at c d (length c) refl,
-  sym (drop-at a b (length c) e) ∙ ap (drop (length c)) same ∙ drop-at c d (length c) refl,
-)

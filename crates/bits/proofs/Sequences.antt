@@ -1,5 +1,5 @@
 -- The sequence of a register, cut at a place: from there on it is the sequence of the register as it then is.
-use mathlib.Core.Path.{_≡_, refl, ap, _∙_}
+use mathlib.Core.Path.{_≡_, refl, ap}
 use mathlib.Core.List.{List, [], _∷_, _++_}
 use Prim.Native.Nat.{ℕ, zero, suc, _+_, _<_}
 use native.Mathlib.Omega.{arith}
@@ -21,17 +21,9 @@ sequence-append g zero b s = let z : 0 + b ≡ b = omega arith in rw z
 sequence-append g (suc a) b [] = let z : suc a + b ≡ suc (a + b) = omega arith in rw z (empty g a b)
 sequence-append g (suc a) b (x ∷ s) = let z : suc a + b ≡ suc (a + b) = omega arith in rw z (ap (λ (l : List ℕ). x ∷ l) (sequence-append g a b (shifted g (x ∷ s))))
 
-pub after-append : (g : List ℕ) (a b : ℕ) (s : List ℕ) → after g (a + b) s ≡ after g b (after g a s)
-after-append g zero b s = let z : 0 + b ≡ b = omega arith in rw z
-after-append g (suc a) b s = let z : suc a + b ≡ suc (a + b) = omega arith in rw z (after-append g a b (shifted g s))
-
 shifted-length : (g s : List ℕ) → length (shifted g s) ≡ length s
 shifted-length g [] = refl
 shifted-length g (x ∷ s) = omega (arith, length-append s (feedback g (x ∷ s) ∷ []))
-
-pub after-length : (g : List ℕ) (n : ℕ) (s : List ℕ) → length (after g n s) ≡ length s
-after-length g zero s = refl
-after-length g (suc n) s = after-length g n (shifted g s) ∙ shifted-length g s
 
 -- a register that is not empty never ends
 pub sequence-length : (g : List ℕ) (n : ℕ) (s : List ℕ) → 0 < length s → length (sequence g n s) ≡ n

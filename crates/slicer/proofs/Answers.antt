@@ -4,7 +4,7 @@ use mathlib.Core.Bool.{true, false, false≢true}
 use mathlib.Core.List.{List, _++_}
 use Prim.Native.Nat.{ℕ, _+_, _-_, _*_, _≤_, _<_}
 use native.Mathlib.Omega.{arith}
-use borrow.Author.Tests.{lt-ltb, le-ltb, ltb-false, ne-eqb, eqb-true}
+use borrow.Author.Tests.{lt-ltb, le-ltb, ltb-false, ne-eqb}
 use lib.Dec.{eqb, ltb}
 use lib.ListN.{length, take, drop}
 use lib.Seq.{sets, sets-eq}
@@ -65,7 +65,6 @@ module _ (s : Slicer) (memory out : List ℕ) where
 -- where a block is handed out, and where none is
 module _ (s : Slicer) (memory : List ℕ) (room : ℕ) where
   pub record Handed : Type 0 where
-    pub number : blockNumber s memory room ≡ passed
     pub enough : K s ≤ s .waiting
     pub after : sliced s memory room .slicer ≡ withoutBlock s
 
@@ -75,7 +74,7 @@ module _ (s : Slicer) (memory : List ℕ) (room : ℕ) where
       by-cases (eqb (blockNumber s memory room) passed)
       (λ t. by-cases (ltb (s .waiting) (K s))
       (λ few. absurd (false≢true (rw (t, few) at h)))
-      (λ enough. record { number = eqb-true _ _ t; enough = ltb-false _ _ enough; after = rw (t, enough) }))
+      (λ enough. record { enough = ltb-false _ _ enough; after = rw (t, enough) }))
       (λ f. absurd (false≢true (simp f at h)))
 
   pub hands-none : sliced s memory room .block ≡ false → sliced s memory room .slicer ≡ s
