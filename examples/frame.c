@@ -1,5 +1,5 @@
 /* A frame of format 13 from sixteen blocks of test bits; prints the digest of its slots.
- *     cc -Iinclude examples/frame.c build/libsccc.a -o frame && ./frame */
+ *     cc -Iinclude examples/frame.c build/libsccc.a -o build/frame && build/frame */
 #include "sccc.h"
 
 #include <inttypes.h>

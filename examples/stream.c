@@ -1,5 +1,5 @@
 /* A frame of format 13 from transfer frames of 1,115 test octets; prints the digest of its slots.
- *     cc -Iinclude examples/stream.c build/libsccc.a -o stream && ./stream */
+ *     cc -Iinclude examples/stream.c build/libsccc.a -o build/stream && build/stream */
 #include "sccc.h"
 
 #include <inttypes.h>
