@@ -6,7 +6,7 @@ use Prim.Native.Nat.{ℕ, zero, suc, zero-le, _+_, _-_, _≤_, _<_}
 use native.Mathlib.Omega.{arith}
 use borrow.Author.Tests.{le-leb, leb-true}
 use lib.Dec.{leb}
-use lib.ListN.{length, getD, take, drop, drop-of-length-le, take-append-drop}
+use lib.ListN.{length, getD, take, drop, replicate, drop-of-length-le, take-append-drop}
 use lib.Seq.{drop-drop}
 use Rattle.bits.specs.Legal.{allAtMost}
 use Rattle.bits.proofs.Cases.{by-cases}
@@ -85,3 +85,7 @@ pub legal-append : (top : ℕ) (a b : List ℕ) → allAtMost top a ≡ true →
 legal-append top [] b e f = f
 legal-append top (x ∷ a) b e f =
     rw (le-leb x top (legal-head top x a e)) (legal-append top a b (legal-tail top x a e) f)
+
+pub legal-repeated : (top n x : ℕ) → x ≤ top → allAtMost top (replicate n x) ≡ true
+legal-repeated top zero x h = refl
+legal-repeated top (suc n) x h = rw (le-leb x top h) (legal-repeated top n x h)

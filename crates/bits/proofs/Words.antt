@@ -1,10 +1,11 @@
 -- Laws of bits that are packed in words.
-use mathlib.Core.Path.{_≡_, refl, ap}
+use mathlib.Core.Path.{_≡_, refl, sym, ap, ap₂, _∙_}
 use mathlib.Core.List.{List, [], _∷_, _++_, append-assoc}
 use Prim.Native.Nat.{ℕ, zero, suc, _+_, _-_, _*_, _/_, _%_, _^_, _≤_, _<_}
 use native.Mathlib.Omega.{arith}
 use lib.Bits.{bitXor}
 use lib.ListN.{length, getD, drop, drop-of-length-le, length-append}
+use lib.Pow.{mod-pow-add}
 use Rattle.bits.specs.Sum.{_⊕*_}
 use Rattle.bits.specs.Words.{bitsOf, unpacked}
 use Rattle.bits.proofs.Lists.{drop-next}
@@ -26,6 +27,17 @@ pub length-bits : (n word : ℕ) → length (bitsOf n word) ≡ n
 unfolding bitsOf
 length-bits zero word = refl
 length-bits (suc n) word = ap suc (length-bits n word)
+
+-- the number that the lowest n + 1 bits make: the first of them, and the n that follow
+pub low-next : (n word : ℕ) → word % 2 ^ suc n ≡ word / 2 ^ n % 2 * 2 ^ n + word % 2 ^ n
+low-next n word = let e : suc n ≡ 1 + n = omega arith in ap (λ (k : ℕ). word % 2 ^ k) e ∙ mod-pow-add word 1 n
+
+-- words with the same lowest n bits have the same number there
+pub bits-same : (n a b : ℕ) → bitsOf n a ≡ bitsOf n b → a % 2 ^ n ≡ b % 2 ^ n
+unfolding bitsOf
+bits-same zero a b e = omega arith
+bits-same (suc n) a b e =
+    low-next n a ∙ ap₂ (λ (u v : ℕ). u * 2 ^ n + v) (ap (λ (l : List ℕ). getD l 0 0) e) (bits-same n a b (ap (drop 1) e)) ∙ sym (low-next n b)
 
 -- the exclusive or of two words is the sum of their bits
 pub bits-xor : (n a b : ℕ) → bitsOf n (bitXor a b) ≡ bitsOf n a ⊕* bitsOf n b

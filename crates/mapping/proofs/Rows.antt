@@ -2,15 +2,16 @@
 use mathlib.Core.Path.{_≡_, refl, sym, ap, _∙_}
 use mathlib.Core.Bool.{true}
 use mathlib.Core.List.{List, [], _∷_, _++_, append-nil, append-assoc}
-use Prim.Native.Nat.{ℕ, zero, suc, _+_, _*_, _^_, _≤_, _<_}
+use Prim.Native.Nat.{ℕ, zero, suc, _+_, _-_, _*_, _^_, _≤_, _<_}
 use native.Mathlib.Nat.{pow-suc, add-zero}
 use native.Mathlib.Numerals.{add-one}
 use native.Mathlib.Omega.{arith}
+use borrow.Author.Tests.{le-leb}
 use lib.ListN.{length, getD, drop, take, set, replicate, length-drop}
 use lib.Seq.{length-take-le, take-suc-set, drop-set-lt, getD-take, getD-drop}
-use lib.Pow.{pow-mono}
+use lib.Pow.{pow-mono, le-ones}
 use Rattle.bits.specs.Digits.{value}
-use Rattle.bits.specs.Legal.{allBits}
+use Rattle.bits.specs.Legal.{allAtMost, allBits}
 use Rattle.bits.proofs.Digits.{value-last}
 use Rattle.bits.proofs.Legal.{legal-at}
 use Rattle.bits.proofs.Lists.{drop-next}
@@ -60,6 +61,15 @@ pub label-low : (m : ℕ) (codeword : List ℕ) (r : ℕ) → allBits codeword �
 label-low zero codeword r h = omega arith
 label-low (suc m) codeword r h =
     omega (arith, label-next m codeword r, label-low m codeword r h, legal-at 1 codeword h (r + m * symbols), pow-suc 2 m)
+
+legal-from : (m : ℕ) (codeword : List ℕ) → allBits codeword ≡ true → (r k : ℕ) → allAtMost (2 ^ m - 1) (labelsFrom m codeword r k) ≡ true
+legal-from m codeword h r zero = refl
+legal-from m codeword h r (suc k) =
+    rw (le-leb (label m codeword r) (2 ^ m - 1) (le-ones m (label-low m codeword r h))) (legal-from m codeword h (r + 1) k)
+
+pub labels-legal : (m : ℕ) (codeword : List ℕ) → allBits codeword ≡ true → allAtMost (2 ^ m - 1) (labels m codeword) ≡ true
+unfolding labels
+labels-legal m codeword h = legal-from m codeword h 0 symbols
 
 -- so one bit more still fits a byte
 pub label-fits : (c m : ℕ) (codeword : List ℕ) (r : ℕ) → allBits codeword ≡ true → c < m → m ≤ 8

@@ -11,6 +11,7 @@ use lib.Seq.{take-at}
 use Rattle.bits.specs.Checks.{passed}
 use Rattle.bits.specs.Legal.{allBits}
 use Rattle.bits.proofs.Cases.{by-cases}
+use Rattle.bits.proofs.Legal.{legal-repeated}
 use Rattle.bits.proofs.Lists.{drop-next}
 use Rattle.acm.specs.Formats.{isFormat, formatOf}
 use Rattle.acm.specs.declared.table.Format.{Format}
@@ -33,13 +34,9 @@ module _ (p K : ℕ) where
   unfolding block
   block-single z e = rw (ne-eqb p 0 z, ne-eqb p 1 e)
 
-replicate-bits : (n b : ℕ) → b ≤ 1 → allBits (replicate n b) ≡ true
-replicate-bits zero b h = refl
-replicate-bits (suc n) b h = rw (le-leb b 1 h) (replicate-bits n b h)
-
 single-bits : (n : ℕ) → allBits (set (replicate n 0) 0 1) ≡ true
 single-bits zero = refl
-single-bits (suc n) = replicate-bits n 0 (omega arith)
+single-bits (suc n) = legal-repeated 1 n 0 (omega arith)
 
 pub block-length : (p K : ℕ) → length (block p K) ≡ K
 unfolding block
@@ -55,8 +52,8 @@ pub block-bits : (p K : ℕ) → allBits (block p K) ≡ true
 unfolding block
 block-bits p K =
     by-cases (eqb p 0)
-    (λ t. rw t (replicate-bits K 0 (omega arith)))
-    (λ f. by-cases (eqb p 1) (λ t. rw (f, t) (replicate-bits K 1 (omega arith))) (λ g. rw (f, g) (single-bits K)))
+    (λ t. rw t (legal-repeated 1 K 0 (omega arith)))
+    (λ f. by-cases (eqb p 1) (λ t. rw (f, t) (legal-repeated 1 K 1 (omega arith))) (λ g. rw (f, g) (single-bits K)))
 
 pub ones-most : (bits : List ℕ) → ones bits ≤ length bits
 unfolding ones
