@@ -85,7 +85,7 @@ typedef struct {
     uint64_t number, start, length;
 } sccc_section_range;
 
-/* same: 1 or 0; count and first are 0 where the lists are the same */
+/* same: 1 or 0; count is of bits, first a label's place; both are 0 where the lists are the same */
 typedef struct {
     uint64_t number, same, count, first;
 } sccc_comparison;
@@ -203,8 +203,9 @@ sccc_section_range sccc_section(const uint8_t *labels, size_t labels_len, uint64
 /*
  * sccc_compare: two label lists held against each other.
  *
- * Computes  whether two lists of a format's labels are the same; if not, at how many places they
- *           differ, and the first of these. a and b may overlap, since neither is written.
+ * Computes  whether two lists of a format's labels are the same; if not, in how many bits the
+ *           labels differ, added over all places, and the first place at which they do. a and b
+ *           may overlap, since neither is written.
  * Checks    1  the format is 1 to 27
  *           2  a_len and b_len are 8,100
  *           3  each element of a and of b is below 2^m

@@ -112,7 +112,7 @@ class Step(NamedTuple):
 
 
 class Comparison(NamedTuple):
-    """Whether two label lists are the same; if not, at how many places they differ, and the first of these. Else both are 0."""
+    """Whether two label lists are the same; if not, in how many bits they differ, and at which place first. Else both are 0."""
 
     same: bool
     count: int
@@ -201,7 +201,7 @@ def section(labels: Buffer, place: SupportsIndex) -> memoryview:
 
 
 def compare(format: SupportsIndex, a: Buffer, b: Buffer) -> Comparison:
-    """Two lists of 8,100 labels held against each other.
+    """Two lists of 8,100 labels held against each other. The bits in which two labels differ are counted, and added over all places.
 
     Checks: 1; 2, each has 8,100 labels; 3, each label of either is below 2^m.
     """

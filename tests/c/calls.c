@@ -389,8 +389,8 @@ static void compare_gives(int line, uint64_t f, size_t a_len, size_t b_len, uint
     sccc_comparison r = sccc_compare(f, lent(labels, a_len), a_len, lent(others, b_len), b_len);
     check(line, r.number == number, "the number of sccc_compare");
     check(line, r.same == same, "whether the lists are the same");
-    check(line, r.count == count, "the count of differences");
-    check(line, r.first == first, "the first difference");
+    check(line, r.count == count, "the count of bits that differ");
+    check(line, r.first == first, "the first place that differs");
 }
 
 #define COMPARE(f, number, same, count, first)                                                     \
@@ -406,15 +406,19 @@ static void compare(void)
     memset(labels, 0, sizeof labels);
     memset(others, 0, sizeof others);
     for (f = 1; f <= SCCC_FORMATS; f++) {
-        uint8_t top = (uint8_t)((1u << sccc_format(f).m) - 1);
+        uint64_t m = sccc_format(f).m;
+        uint8_t top = (uint8_t)((1u << m) - 1);
         COMPARE(f, SCCC_PASSED, 1, 0, 0);
         others[0] = top;
-        COMPARE(f, SCCC_PASSED, 0, 1, 0);
+        COMPARE(f, SCCC_PASSED, 0, m, 0);
         others[0] = 0;
         labels[8099] = top;
+        COMPARE(f, SCCC_PASSED, 0, m, 8099);
+        others[8099] = (uint8_t)(top / 2);
         COMPARE(f, SCCC_PASSED, 0, 1, 8099);
+        others[8099] = 0;
         others[4000] = 1;
-        COMPARE(f, SCCC_PASSED, 0, 2, 4000);
+        COMPARE(f, SCCC_PASSED, 0, m + 1, 4000);
         others[8099] = (uint8_t)(top + 1);
         COMPARE_REFUSED(f, SCCC_SYMBOLS, SCCC_SYMBOLS, SCCC_BAD_ELEMENT);
         labels[8099] = (uint8_t)(top + 1);
@@ -426,6 +430,8 @@ static void compare(void)
         labels[8099] = 0;
         memset(others, 1, SCCC_SYMBOLS);
         COMPARE(f, SCCC_PASSED, 0, SCCC_SYMBOLS, 0);
+        memset(others, top, SCCC_SYMBOLS);
+        COMPARE(f, SCCC_PASSED, 0, m * SCCC_SYMBOLS, 0);
         memset(others, 0, SCCC_SYMBOLS);
     }
     CHECK(sccc_compare(1, labels, SCCC_SYMBOLS, labels, SCCC_SYMBOLS).same == 1);

@@ -251,10 +251,12 @@ class Frames(Case):
         self.assertEqual(sccc.compare(13, a, b), (True, 0, 0))
         self.assertEqual(sccc.compare(13, a, a), (True, 0, 0))
         b[0] = 15
-        self.assertEqual(sccc.compare(13, a, b), (False, 1, 0))
-        b[0], a[8099] = 0, 15
-        self.assertEqual(sccc.compare(13, a, b), (False, 1, 8099))
+        self.assertEqual(sccc.compare(13, a, b), (False, 4, 0))
+        b[0], a[8099] = 0, 9
+        self.assertEqual(sccc.compare(13, a, b), (False, 2, 8099))
         self.assertEqual(sccc.compare(13, bytes(8100), b"\1" * 8100), (False, 8100, 0))
+        self.assertEqual(sccc.compare(13, b"\5" * 8100, b"\12" * 8100), (False, 4 * 8100, 0))
+        self.assertEqual(sccc.compare(27, b"\77" * 8100, bytes(8100)), (False, 6 * 8100, 0))
         b[8099] = 16
         self.assertRefused(3, sccc.compare, 13, a, b)
         self.assertRefused(3, sccc.compare, 13, b, a)

@@ -1,9 +1,9 @@
--- What the number 0 says of the lists: that all of the checks hold.
+-- The number is 0 exactly if all of the checks hold of the lists.
 use mathlib.Core.Path.{_≡_, refl}
 use mathlib.Core.Bool.{true}
 use mathlib.Core.List.{List}
 use Prim.Native.Nat.{ℕ}
-use borrow.Author.Tests.{eqb-true}
+use borrow.Author.Tests.{eqb-true, eq-eqb}
 use lib.Dec.{lit<}
 use lib.ListN.{length}
 use Rattle.bits.specs.Checks.{_or-else_, passed}
@@ -30,3 +30,7 @@ compare-passed f a b e =
       legal-a = part 3 (lit< tt);
       legal-b = part 4 (lit< tt);
     }
+
+pub compare-passes : (f : ℕ) (a b : List ℕ) → ComparePassed f a b → compareNumber f a b ≡ passed
+unfolding compareNumber
+compare-passes f a b c = rw (c .known, eq-eqb _ _ (c .long-a), eq-eqb _ _ (c .long-b), c .legal-a, c .legal-b)

@@ -1,4 +1,4 @@
--- Two label lists held against each other (document 01: the tally).
+-- Two label lists held against each other (document 01: the tally; document 02, L2: it counts bits).
 use mathlib.Core.Bool.{Bool, true, false, not}
 use mathlib.Core.List.{List, [], _∷_}
 use Prim.Native.Nat.{ℕ, suc, _+_}
@@ -7,7 +7,8 @@ use lib.ListN.{length}
 use Rattle.bits.specs.Checks.{Check, _or-else_, firstFailed, passed, badFormat, badLength, badElement}
 use Rattle.bits.specs.Choice.{if_then_else_}
 use Rattle.bits.specs.Legal.{allAtMost}
-use Rattle.acm.specs.Formats.{symbols, isFormat, topLabel}
+use Rattle.bits.specs.Words.{bitsOf}
+use Rattle.acm.specs.Formats.{symbols, isFormat, formatOf, topLabel}
 use Rattle.compare.specs.declared.Comparison.{Comparison}
 use Rattle.compare.specs.declared.Comparison.the-variants.{Same, Differ, Refused}
 
@@ -17,7 +18,17 @@ differing [] ys = 0
 differing (x ∷ xs) [] = 0
 differing (x ∷ xs) (y ∷ ys) = (if eqb x y then 0 else 1) + differing xs ys
 
--- the first of them, counted from 0; lists that do not differ give their length
+-- the number of bits in which two labels of m bits differ
+abbrev pub apart : ℕ → ℕ → ℕ → ℕ
+apart m x y = differing (bitsOf m x) (bitsOf m y)
+
+-- added over the places of two lists of one length
+unfoldable pub differingBits : ℕ → List ℕ → List ℕ → ℕ
+differingBits m [] ys = 0
+differingBits m (x ∷ xs) [] = 0
+differingBits m (x ∷ xs) (y ∷ ys) = apart m x y + differingBits m xs ys
+
+-- the first place that differs, counted from 0; lists that do not differ give their length
 unfoldable pub firstPlace : List ℕ → List ℕ → ℕ
 firstPlace [] ys = 0
 firstPlace (x ∷ xs) [] = 0
@@ -60,4 +71,4 @@ abbrev pub compared : ℕ → List ℕ → List ℕ → Answer
 compared f a b =
     if not (eqb (compareNumber f a b) passed) then refused (compareNumber f a b)
     else if eqb (differing a b) 0 then equal
-    else unequal (differing a b) (firstPlace a b)
+    else unequal (differingBits (formatOf f .m) a b) (firstPlace a b)

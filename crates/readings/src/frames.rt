@@ -1,4 +1,4 @@
-// frame, section and compare, in format 1, whose labels are below 4.
+// frame, section and compare; the rows are of format 1, whose labels are below 4, and a few of format 27, below 64.
 use crate::buffers::element;
 use crate::buffers::front_slots;
 use crate::buffers::print_changed_slots;
@@ -41,7 +41,7 @@ fn print_section(place: u64, labels: &[u8]) {
     print_field(element(part, SYMBOLS - 1) as u64);
 }
 
-// Labels 0 but for the last, in the second list another value throughout. The row has the number, 1 for the same, the count and the first place.
+// Labels 0 but for the last, in the second list another value throughout. The row has the number, 1 for the same, the bits and the first place.
 pub(crate) fn compare(row: Row) {
     let mut a = bytes(0);
     let mut b = bytes(row.f);

@@ -448,7 +448,7 @@ fn compare_call(generator: &mut Generator, _: &AnnexC) -> Compared {
     };
     let mut met = met(number, &f);
     if number == PASSED {
-        let comparison = compare::compare(first, second);
+        let comparison = compare::compare(f.m, first, second);
         expected.same = comparison.same.into();
         expected.count = comparison.count;
         expected.first = comparison.first;

@@ -136,10 +136,14 @@ fn illegal(generator: &mut Generator, m: usize) -> u8 {
     }
 }
 
-/// Changes no element, one (the first, the last or any), some, or about half.
-/// They stay elements of m bits.
+/// Changes no element, one (the first, the last or any), some, or about half,
+/// or every bit of all. They stay elements of m bits.
 pub fn change(generator: &mut Generator, list: &mut [u8], m: usize) {
     if list.is_empty() {
+        return;
+    }
+    if generator.below(7) == 0 {
+        list.iter_mut().for_each(|x| *x ^= top(m));
         return;
     }
     let length = list.len();

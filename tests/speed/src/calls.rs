@@ -128,7 +128,8 @@ impl Call {
     pub fn aim(self) -> f64 {
         match self {
             Call::Encode | Call::Labels => 3.0,
-            Call::Frame | Call::CompareSame | Call::CompareDiffer => 2.0,
+            Call::Frame => 2.0,
+            Call::CompareSame | Call::CompareDiffer => 1.5,
             Call::PushUsual | Call::PushLongest | Call::BlockUsual | Call::BlockLongest => 1.5,
         }
     }

@@ -146,12 +146,12 @@ impl Plain {
         if !all_at_most(a, top) || !all_at_most(b, top) {
             return comparison(3, 0, 0, 0);
         }
-        let count = a.iter().zip(b).filter(|(a, b)| a != b).count();
+        let count: u32 = a.iter().zip(b).map(|(a, b)| (a ^ b).count_ones()).sum();
         if count == 0 {
             return comparison(0, 1, 0, 0);
         }
         let first = a.iter().zip(b).position(|(a, b)| a != b);
-        comparison(0, 0, count as u64, first.unwrap_or(0) as u64)
+        comparison(0, 0, u64::from(count), first.unwrap_or(0) as u64)
     }
 
     pub fn push(&self, slicer: Slicer, frame: &[u8], waiting: &mut [u8]) -> SlicerAnswer {
