@@ -1,3 +1,4 @@
+pub mod Comparison
 pub mod Demand3
 pub mod Readings
 pub mod Stream
