@@ -62,6 +62,13 @@ label-low zero codeword r h = omega arith
 label-low (suc m) codeword r h =
     omega (arith, label-next m codeword r, label-low m codeword r h, legal-at 1 codeword h (r + m * symbols), pow-suc 2 m)
 
+-- so one bit more still fits a byte
+pub label-fits : (c m : ℕ) (codeword : List ℕ) (r : ℕ) → allBits codeword ≡ true → c < m → m ≤ 8
+    → 2 * label c codeword r + getD codeword (r + c * symbols) 0 < 256
+label-fits c m codeword r h low high =
+    omega (arith, label-next c codeword r, label-low (suc c) codeword r h, pow-mono {i = suc c} {j = 8} (omega arith))
+
+-- the labels of ones and zeros are legal
 legal-from : (m : ℕ) (codeword : List ℕ) → allBits codeword ≡ true → (r k : ℕ) → allAtMost (2 ^ m - 1) (labelsFrom m codeword r k) ≡ true
 legal-from m codeword h r zero = refl
 legal-from m codeword h r (suc k) =
@@ -70,12 +77,6 @@ legal-from m codeword h r (suc k) =
 pub labels-legal : (m : ℕ) (codeword : List ℕ) → allBits codeword ≡ true → allAtMost (2 ^ m - 1) (labels m codeword) ≡ true
 unfolding labels
 labels-legal m codeword h = legal-from m codeword h 0 symbols
-
--- so one bit more still fits a byte
-pub label-fits : (c m : ℕ) (codeword : List ℕ) (r : ℕ) → allBits codeword ≡ true → c < m → m ≤ 8
-    → 2 * label c codeword r + getD codeword (r + c * symbols) 0 < 256
-label-fits c m codeword r h low high =
-    omega (arith, label-next c codeword r, label-low (suc c) codeword r h, pow-mono {i = suc c} {j = 8} (omega arith))
 
 -- a turn of the loop that appends a column, in place
 pub append-turn : (column out : List ℕ) (r : ℕ) → r < length column → r < length out

@@ -207,7 +207,7 @@ pub extern "C" fn sccc_section(labels: &[u8], place: u64) -> SectionRange
     }
 }
 
-// Whether two label lists are the same, 1 or 0; if they are not, at how many places they differ, and the first of them.
+// Whether two label lists are the same, 1 or 0; if they are not, in how many bits they differ, and the first place at which they do.
 #[repr(C)]
 pub struct Comparison {
     pub number: u64,
@@ -229,7 +229,7 @@ impl Comparison {
     }
 }
 
-// Two lists of 8,100 labels of a format held against each other (document 01: the tally).
+// Two lists of 8,100 labels of a format held against each other (document 01: the tally; document 02, L2: it counts bits).
 // Checks: 1; 2, each list has 8,100 labels; 3, each label of either is below 2^m.
 #[no_mangle]
 pub extern "C" fn sccc_compare(format: u64, a: &[u8], b: &[u8]) -> Comparison

@@ -31,6 +31,9 @@ fn bits_apart(m: usize, x: u8, y: u8) -> u64 {
 #[cfg(test)]
 mod tests {
     use super::*;
+    use crate::digest::seeded_block;
+    use crate::encoder::labels;
+    use crate::tables::formats;
 
     fn differ(count: u64, first: u64) -> Comparison {
         Comparison {
@@ -60,5 +63,15 @@ mod tests {
     fn a_64apsk_label_can_hold_six() {
         assert_eq!(compare(6, &[5, 63], &[5, 0]), differ(6, 1));
         assert_eq!(compare(6, &[0b101010, 9], &[0b010101, 9]), differ(6, 0));
+    }
+
+    #[test]
+    fn labels_differ_in_as_many_bits_as_their_codewords() {
+        for f in formats() {
+            let [a, b] = [1, 2].map(|seed| seeded_block(seed, f.N));
+            let coded_bits = a.iter().zip(&b).filter(|(x, y)| x != y).count();
+            let found = compare(f.m, &labels(f, &a), &labels(f, &b));
+            assert_eq!(found.count, coded_bits as u64);
+        }
     }
 }
