@@ -129,8 +129,12 @@ impl Call {
         match self {
             Call::Encode | Call::Labels => 3.0,
             Call::Frame => 2.0,
-            Call::CompareSame | Call::CompareDiffer => 1.5,
-            Call::PushUsual | Call::PushLongest | Call::BlockUsual | Call::BlockLongest => 1.5,
+            Call::CompareSame
+            | Call::CompareDiffer
+            | Call::PushUsual
+            | Call::PushLongest
+            | Call::BlockUsual
+            | Call::BlockLongest => 1.5,
         }
     }
 
