@@ -3,6 +3,7 @@ use mathlib.Core.Path.{_≡_, refl, sym, ap, _∙_}
 use mathlib.Core.Bool.{true}
 use mathlib.Core.List.{List, _++_}
 use Prim.Native.Nat.{ℕ, zero, suc, _+_, _≤_, _<_}
+use native.Mathlib.Nat.{zero-add}
 use native.Mathlib.Omega.{arith}
 use borrow.Author.Tests.{le-leb}
 use lib.ListN.{length, getD, drop, length-append, List·getD-append}
@@ -17,14 +18,18 @@ use Rattle.acm.proofs.Laws.{format-sound}
 use Rattle.trellis.specs.Trellis.{zero-state, ends, parities, termination}
 use Rattle.trellis.proofs.Runs.{parities-length, parities-bits, termination-bits}
 use Rattle.annex_c.specs.AnnexC.{sizeOf}
-use Rattle.interleaver.specs.Interleaver.{π}
-use Rattle.interleaver.proofs.Formats.{format-vectors, format-length, π-permutes}
-use Rattle.puncture.specs.Puncture.{pattern, survives, punctured, rateMatched}
+use Rattle.annex_c.proofs.Sizes.{α-rows}
+use Rattle.interleaver.specs.Interleaver.{permuted, π}
+use Rattle.interleaver.specs.Walk.{Multiples}
+use Rattle.interleaver.proofs.Formats.{format-size, format-vectors, format-length, π-permutes}
+use Rattle.puncture.specs.Puncture.{period, LaidOut, survives, punctured, rateMatched}
 use Rattle.puncture.proofs.Count as count
 use Rattle.puncture.proofs.Kept.{kept-bits}
 use Rattle.puncture.proofs.Matched.{rate-matched-bits}
+use Rattle.inner.specs.Coder.{starting, Fits}
 use Rattle.inner.specs.Registers.{readFrom, upper, lower, registers, interleaved, fromOuter}
 use Rattle.inner.specs.Lent.{Lent, written}
+use Rattle.inner.proofs.Turns.{lower-start, reads-all}
 
 pub read-length : (ρ : ℕ → ℕ) (kept : List ℕ) (i n : ℕ) → length (readFrom ρ kept i n) ≡ n
 read-length ρ kept i zero = refl
@@ -94,21 +99,36 @@ module _ (f : ℕ) (h : isFormat f ≡ true) where
 -- the memory that the inner encoder is lent, and what it makes of it
 module _ (f : ℕ) (h : isFormat f ≡ true) {r : Format} {α β : List ℕ} (is : r ≡ formatOf f) (α-is : α ≡ sizeOf (formatOf f .w) .α)
     (β-is : β ≡ sizeOf (formatOf f .w) .β) where
-  pub lent-of : {pat : List ℕ} → pat ≡ pattern (formatOf f .survivors) → (work out : List ℕ) → formatOf f .i ≤ length work → formatOf f .n ≤ length out → Lent r α β pat work out
-  unfolding π
-  lent-of pat-is work out hw ho =
-      let bits = interleaved (formatOf f) (π f) work in
-      let long = read-length (π f) work 0 (formatOf f .i) in
-      rw (is, α-is, β-is, pat-is)
+  pub lent-of : {starts residues pat : List ℕ} → Multiples (formatOf f .w) (formatOf f .i) starts → Multiples (formatOf f .w) period residues
+      → LaidOut (formatOf f .survivors) pat → (work out : List ℕ) → formatOf f .i ≤ length work → formatOf f .n ≤ length out
+      → Lent r α β starts residues pat work out
+  lent-of {starts} {residues} starts-are residues-are pat-is work out hw ho =
+      let w = α-rows (formatOf f .w) (format-size f h) in
+      rw (is, α-is, β-is)
       (record {
         vectors = format-vectors f h refl refl;
         size = sym (format-length f h refl refl);
-        pattern-is = refl;
+        starts-are = rw (w, ← format-sound f h .banks) starts-are;
+        residues-are = rw w residues-are;
+        pattern-is = pat-is;
         outer-bits = hw;
         deletes = format-sound f h .deletes;
-        upper-long = upper-long f h (π f) (π-permutes f h) bits long;
-        lower-long = lower-long f h (π f) (π-permutes f h) bits long;
         room = ho;
+      })
+
+  -- at the start both registers are left whole
+  pub fits-start : (work : List ℕ) → Fits r (permuted α β) work 0 (starting r)
+  unfolding π
+  fits-start work =
+      let bits = interleaved (formatOf f) (π f) work in
+      let long = read-length (π f) work 0 (formatOf f .i) in
+      let d = format-sound f h .deletes in
+      rw (is, α-is, β-is)
+      (record {
+        upper-ends = rw (reads-all (π f) work (formatOf f .i)) (zero-add _ ∙ upper-long f h (π f) (π-permutes f h) bits long);
+        lower-ends = rw (reads-all (π f) work (formatOf f .i), ← lower-start (formatOf f .i) (formatOf f .delta) bits (omega (arith, d))) (lower-long f h (π f) (π-permutes f h) bits long);
+        apart = omega arith;
+        counter-low = d;
       })
 
   pub written-is : (work out : List ℕ) → formatOf f .n ≤ length out → sets out 0 (written r α β work) ≡ fromOuter f work ++ drop (formatOf f .n) out
@@ -116,3 +136,17 @@ module _ (f : ℕ) (h : isFormat f ≡ true) {r : Format} {α β : List ℕ} (is
   written-is work out ho =
       let n = from-outer-length f h work in
       rw (is, α-is, β-is) (sets-front (fromOuter f work) out (omega (arith, n)) ∙ ap (λ (k : ℕ). fromOuter f work ++ drop k out) n)
+
+-- of the output only the room is asked
+pub lent-same : {r : Format} {α β starts residues pat work out : List ℕ} {new : List ℕ} → Lent r α β starts residues pat work out → length new ≡ length out
+    → Lent r α β starts residues pat work new
+lent-same h e = record {
+  vectors = h .vectors;
+  size = h .size;
+  starts-are = h .starts-are;
+  residues-are = h .residues-are;
+  pattern-is = h .pattern-is;
+  outer-bits = h .outer-bits;
+  deletes = h .deletes;
+  room = omega (arith, h .room);
+}

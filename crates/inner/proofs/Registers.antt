@@ -2,13 +2,12 @@
 -- the buffer with vs stored from n on and ws from q on is F.
 use mathlib.Core.Path.{_≡_, refl, sym, ap, subst₂, _∙_}
 use mathlib.Core.Bool.{Bool, true, false}
-use mathlib.Core.List.{List, [], _∷_, _++_}
+use mathlib.Core.List.{List, [], _∷_}
 use Prim.Native.Nat.{ℕ, suc, _+_, _≤_, _<_}
 use native.Mathlib.Numerals.{add-one}
 use native.Mathlib.Omega.{arith}
 use lib.ListN.{length, set, length-set}
 use lib.Seq.{sets, set-comm, set-set}
-use Rattle.bits.proofs.Fill.{sets-append}
 use Rattle.bits.specs.Choice.{if_then_else_}
 
 -- a store behind the stretch that is still to be stored may come first
@@ -24,18 +23,6 @@ pub record Two (room S N : ℕ) (F out : List ℕ) (n : ℕ) (vs : List ℕ) (q 
   pub lower : q + length ws ≡ N
   pub apart : S ≤ q
   pub rest : sets (sets out n vs) q ws ≡ F
-
-pub two-start : (out vs ws : List ℕ) (S N : ℕ) → length vs ≡ S → S + length ws ≡ N
-    → Two (length out) S N (sets out 0 (vs ++ ws)) out 0 vs S ws
-two-start out vs ws S N e d =
-    let z : 0 + length vs ≡ S = omega arith in
-    record {
-      same = refl;
-      upper = omega arith;
-      lower = d;
-      apart = omega arith;
-      rest = ap (λ (k : ℕ). sets (sets out 0 vs) k ws) (sym z) ∙ sym (sets-append out 0 vs ws);
-    }
 
 -- what is left may be written another way
 pub two-as : {room S N : ℕ} {F out : List ℕ} {n q : ℕ} {vs us ws ts : List ℕ} → vs ≡ us → ws ≡ ts → Two room S N F out n vs q ws → Two room S N F out n us q ts
@@ -98,11 +85,3 @@ module _ {room S N : ℕ} {F out : List ℕ} {n q : ℕ} {vs ws : List ℕ} wher
 
   pub two-room-lower : N ≤ room → Two room S N F out n vs q ws → 0 < length ws → q < length out
   two-room-lower fits t left = omega (arith, t .same, t .lower)
-
--- at the end two bits are left in each
-module _ {room S N : ℕ} {F out : List ℕ} {n q a b y z : ℕ} where
-  pub two-end : Two room S N F out n (a ∷ b ∷ []) q (y ∷ z ∷ []) → set (set (set (set out n a) (n + 1) b) q y) (q + 1) z ≡ F
-  two-end t = two-store-lower (two-store-lower (two-store-upper (two-store-upper t))) .rest
-
-  pub two-end-room : N ≤ room → Two room S N F out n (a ∷ b ∷ []) q (y ∷ z ∷ []) → (n + 1 < length out) × (q + 1 < length out)
-  two-end-room fits t = (omega (arith, t .same, t .upper, t .lower, t .apart), omega (arith, t .same, t .lower))

@@ -1,2 +1,3 @@
+pub mod Coder
 pub mod Lent
 pub mod Registers

@@ -24,13 +24,13 @@ module _ (W i : ℕ) (h : i < M * W) where
 
 -- the position of a row in a bank
 module _ (W bank row : ℕ) (h : row < W) where
-  bank-of : (W * bank + row) / W ≡ bank
+  pub bank-of : (W * bank + row) / W ≡ bank
   bank-of = mul-add-div (omega arith) bank row ∙ omega (arith, div-eq-of-lt h)
 
-  row-of : (W * bank + row) % W ≡ row
+  pub row-of : (W * bank + row) % W ≡ row
   row-of = mul-add-mod-self-left W bank row ∙ mod-eq-of-lt h
 
-  inside : bank < M → W * bank + row < M * W
+  pub inside : bank < M → W * bank + row < M * W
   inside l = omega (arith, mul-le-mul-left {m = bank} {n = M - 1} W (omega arith))
 
 apart : (W x y r s : ℕ) → r < W → s < W → W * x + r ≡ W * y + s → (x ≡ y) × (r ≡ s)

@@ -1,2 +1,4 @@
 pub mod Formats
 pub mod Laws
+pub mod Tables
+pub mod Walks

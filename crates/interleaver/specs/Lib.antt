@@ -1,2 +1,3 @@
 pub mod Interleaver
 pub mod Provenance
+pub mod Walk

@@ -1,5 +1,6 @@
 pub mod Count
 pub mod Kept
+pub mod Laid
 pub mod Matched
 pub mod Places
 pub mod Positions

@@ -8,18 +8,11 @@ use native.Mathlib.Omega.{arith}
 use borrow.Author.Tests.{le-leb, lt-ltb, le-ltb, leb-true, leb-false}
 use lib.Dec.{leb, ltb}
 use lib.ListN.{length}
-use Rattle.bits.specs.Choice.{if_then_else_}
 use Rattle.bits.specs.Legal.{allBits}
 use Rattle.bits.specs.Sum.{_⊕*_}
 use Rattle.bits.proofs.Cases.{by-cases}
 use Rattle.bits.proofs.Legal.{legal-head, legal-tail}
-use Rattle.puncture.specs.Puncture.{matched, rateMatched, counted, counterStart}
-
--- rate matching as the code counts
-abbrev pub countedFrom : ℕ → ℕ → ℕ → List ℕ → List ℕ
-countedFrom I Δ c [] = []
-countedFrom I Δ c (b ∷ bs) =
-    if counted I Δ c .kept then b ∷ countedFrom I Δ (counted I Δ c .counter) bs else countedFrom I Δ (counted I Δ c .counter) bs
+use Rattle.puncture.specs.Puncture.{matched, rateMatched, counterStart, countedFrom}
 
 -- the counter is e + Δ - 1
 matched-counted : (I Δ plus minus c : ℕ) (bits : List ℕ) → Δ ≤ I → c + minus + 1 ≡ plus + Δ → matched I Δ plus minus bits ≡ countedFrom I Δ c bits

@@ -1,9 +1,10 @@
 -- Coding rate adjustment (4.4, with Corrigendum 1): which bits of the two registers are kept.
+use mathlib.Core.Path.{_≡_}
 use mathlib.Core.Bool.{Bool, true, false}
 use mathlib.Core.List.{List, [], _∷_}
-use Prim.Native.Nat.{ℕ, _+_, _-_, _%_}
+use Prim.Native.Nat.{ℕ, _+_, _-_, _*_, _%_, _<_}
 use lib.Dec.{eqb, leb, ltb}
-use lib.ListN.{getD, replicate, set, take}
+use lib.ListN.{length, getD, replicate, set, take}
 use Rattle.bits.specs.Choice.{if_then_else_}
 use Rattle.puncture.specs.Table42.{positions}
 use Rattle.puncture.specs.declared.steps.Matching.{Matching}
@@ -23,6 +24,11 @@ zeroed pattern (p ∷ ps) = zeroed (set pattern p 0) ps
 
 unfoldable pub pattern : ℕ → List ℕ
 pattern Ssur = zeroed (replicate period 1) (take (period - Ssur) positions)
+
+-- the same laid out over three periods
+pub record LaidOut (Ssur : ℕ) (l : List ℕ) : Type 0 where
+  pub long : length l ≡ 3 * period
+  pub entry : (j : ℕ) → j < 3 * period → getD l j 0 ≡ getD (pattern Ssur) (j % period) 0
 
 -- b), c): position i of the upper register is kept where the pattern has a 1 at π(i) modulo 300
 abbrev pub survives : ℕ → ℕ → Bool
@@ -55,3 +61,9 @@ abbrev pub counted : ℕ → ℕ → ℕ → Matching
 counted I Δ c =
     if leb Δ c then record { kept = true; counter = c - Δ }
     else record { kept = false; counter = c + (I - Δ) }
+
+-- the bits that it keeps
+abbrev pub countedFrom : ℕ → ℕ → ℕ → List ℕ → List ℕ
+countedFrom I Δ c [] = []
+countedFrom I Δ c (b ∷ bs) =
+    if counted I Δ c .kept then b ∷ countedFrom I Δ (counted I Δ c .counter) bs else countedFrom I Δ (counted I Δ c .counter) bs

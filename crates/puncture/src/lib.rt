@@ -2,13 +2,16 @@
 ghost use mathlib.Core.Path.{_≡_};
 ghost use Prim.Native.Nat.{ℕ, _-_, _<_, min};
 ghost use lib.ListN.{length, getD};
-ghost use Rattle.puncture.specs.Puncture.{period, mostPunctured, pattern as patternOf, zeroed};
+ghost use Rattle.puncture.specs.Puncture.{period, mostPunctured, pattern as patternOf, LaidOut, zeroed};
 
 pub mod steps;
 mod table;
 
 // The length of the puncturing pattern.
 pub const PERIOD: usize = 300;
+
+// Three periods.
+pub const LAID_OUT: usize = 900;
 
 // Positions of table 4-2: the most that a pattern punctures.
 const MOST_PUNCTURED: usize = 100;
@@ -20,6 +23,23 @@ pub fn pattern(survivors: usize) -> [u8; PERIOD]
     let mut out = [1u8; PERIOD];
     let count = zeros(survivors);
     zero_at(&table::POSITIONS[..count], &mut out);
+    out
+}
+
+// The same laid out over three periods: a number below 900 need not be taken modulo 300.
+pub fn laid_out(survivors: usize) -> [u8; LAID_OUT]
+    ensures { λ r. ⌜ LaidOut survivors r ⌝ }
+{
+    let period = pattern(survivors);
+    let mut out = [0u8; LAID_OUT];
+    let mut i = 0;
+    while i < PERIOD {
+        let mark = period[i];
+        out[i] = mark;
+        out[i + PERIOD] = mark;
+        out[i + 2 * PERIOD] = mark;
+        i += 1;
+    }
     out
 }
 

@@ -7,11 +7,13 @@ use borrow.Author.Needs.{needs}
 use lib.ListN.{take, length-take}
 use Rattle.acm.specs.Formats.{formatOf}
 use Rattle.acm.specs.declared.table.Format.{Format}
+use Rattle.acm.proofs.Laws.{format-sound}
 use Rattle.annex_c.specs.AnnexC.{isSize, sizeOf, widest}
 use Rattle.annex_c.proofs.Sizes.{size-vectors, α-rows, front-α, front-β}
 use Rattle.interleaver.proofs.Formats.{format-size}
-use Rattle.puncture.specs.Puncture.{pattern}
-use Rattle.inner.proofs.Codewords.{lent-of, written-is}
+use Rattle.interleaver.specs.Walk.{Multiples}
+use Rattle.puncture.specs.Puncture.{period, LaidOut}
+use Rattle.inner.proofs.Codewords.{lent-of, fits-start, written-is}
 use Rattle.inner.proofs.steps.encode.Statement.{statement}
 use Rattle.inner.proofs.steps.encode.Tie as tie
 
@@ -42,15 +44,28 @@ module _ (c : tie.After-load) where
   β : take (told .parameters .result .w) (c .load .last .1 .1 .0) ≡ sizeOf (formatOf (start told .args .format) .w) .β
   β = front-β _ (sized told) (c .load .last .1 .1 .0) _ (c .load .ensures .1) ∙ ap (λ (w : ℕ). sizeOf w .β) (w-is told)
 
--- the vectors, and the pattern, from where the pattern is made and from the call that is lent them
-abbrev loaded : tie.After-pattern → tie.After-load
-loaded p = p .before .before .before
+-- the format's record and the vectors, from where the tables and the pattern are made and from the call that is lent them
+abbrev loaded : tie.After-laid-out → tie.After-load
+loaded p = p .before .before .before .before .before
 
-abbrev patterned : tie.After-write-arg → tie.After-pattern
-patterned c = c .before .before .before .before
+abbrev laid : tie.After-write-arg → tie.After-laid-out
+laid c = c .before .before .before .before .before .before
 
-pat : (p : tie.After-pattern) → p .pattern .result ≡ pattern (formatOf (start (told (loaded p)) .args .format) .survivors)
-pat p = p .pattern .ensures ∙ ap (λ (r : Format). pattern (r .survivors)) (told (loaded p) .parameters .ensures)
+module _ (p : tie.After-laid-out) where
+  abbrev record-is : tie.After-parameters
+  record-is = told (loaded p)
+
+  abbrev f : ℕ
+  f = start record-is .args .format
+
+  starts : Multiples (formatOf f .w) (formatOf f .i) (p .before .before .multiples .result)
+  starts = rw (record-is .parameters .ensures) at (p .before .before .multiples .ensures)
+
+  residues : Multiples (formatOf f .w) period (p .before .multiples2 .result)
+  residues = rw (w-is record-is) at (p .before .multiples2 .ensures)
+
+  pattern : LaidOut (formatOf f .survivors) (p .laid-out .result)
+  pattern = rw (record-is .parameters .ensures) at (p .laid-out .ensures)
 
 parameters-requires : tie.Need-parameters-requires
 parameters-requires c κs = c .before .before .pre .0
@@ -66,8 +81,20 @@ load-requires c κs =
     let p = c .before .before in
     (sized p, (narrow p, narrow p))
 
-pattern-requires : tie.Need-pattern-requires
-pattern-requires c κs = search needs
+-- I is below the largest I, and not 0
+multiples-requires : tie.Need-multiples-requires
+multiples-requires c κs =
+    let p = told (c .before .before) in
+    let f = start p .args .format in
+    let i = ap (λ (r : Format). r .i) (p .parameters .ensures) in
+    let sound = format-sound f (start p .pre .0) in
+    (omega (arith, i, sound .deletes), omega (arith, i, sound .banks, sound .widest))
+
+multiples-requires-2 : tie.Need-multiples-requires-2
+multiples-requires-2 c κs = search needs
+
+laid-out-requires : tie.Need-laid-out-requires
+laid-out-requires c κs = search needs
 
 array-share-prefix-alpha : tie.Need-array-share-prefix-alpha
 array-share-prefix-alpha c = omega (arith, narrow (told (loaded c)))
@@ -84,12 +111,21 @@ slice-aggregate-write-2 c = simp length-take (omega (arith, narrow (told (loaded
 slice-aggregate-write-3 : tie.Need-slice-aggregate-write-3
 slice-aggregate-write-3 c = search needs
 
+slice-aggregate-write-4 : tie.Need-slice-aggregate-write-4
+slice-aggregate-write-4 c = search needs
+
+slice-aggregate-write-5 : tie.Need-slice-aggregate-write-5
+slice-aggregate-write-5 c = search needs
+
 write-requires : tie.Need-write-requires
 write-requires c κs =
-    let p = patterned c in
+    let p = laid c in
     let l = loaded p in
     let s = start (told l) in
-    lent-of (s .args .format) (s .pre .0) (told l .parameters .ensures) (α l) (β l) (pat p) (s .args .work .now) (s .args .out .now) (s .pre .1) (s .pre .2)
+    let is = told l .parameters .ensures in (
+      lent-of (s .args .format) (s .pre .0) is (α l) (β l) (starts p) (residues p) (pattern p) (s .args .work .now) (s .args .out .now) (s .pre .1) (s .pre .2),
+      fits-start (s .args .format) (s .pre .0) is (α l) (β l) (s .args .work .now),
+    )
 
 same-length : tie.Need-same-length
 same-length c = search needs
@@ -97,7 +133,7 @@ same-length c = search needs
 returns : tie.Need-returns
 returns c =
     let w = c .before .before in
-    let l = loaded (patterned (w .before)) in
+    let l = loaded (laid (w .before)) in
     let s = start (told l) in
     w .write .ensures ∙ written-is (s .args .format) (s .pre .0) (told l .parameters .ensures) (α l) (β l) (s .args .work .now) (s .args .out .now) (s .pre .2)
 
@@ -109,12 +145,16 @@ encode-spec =
     slice-aggregate-load
     slice-aggregate-load-2
     load-requires
-    pattern-requires
+    multiples-requires
+    multiples-requires-2
+    laid-out-requires
     array-share-prefix-alpha
     slice-aggregate-write
     array-share-prefix-beta
     slice-aggregate-write-2
     slice-aggregate-write-3
+    slice-aggregate-write-4
+    slice-aggregate-write-5
     write-requires
     same-length
     returns)

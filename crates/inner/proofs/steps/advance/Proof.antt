@@ -1,0 +1,98 @@
+-- A stretch goes on past where the last one ended, and leaves the completed output as it was.
+use mathlib.Core.Path.{_≡_, refl, _∙_}
+use Prim.Native.Nat.{_+_, _*_, _-_, _≤_, _<_}
+use native.Mathlib.Omega.{arith}
+use lib.ListN.{length}
+use Rattle.acm.specs.Formats.{M}
+use Rattle.interleaver.specs.Walk.{InColumn}
+use Rattle.interleaver.proofs.Walks.{walked-row, in-column}
+use Rattle.inner.specs.Lent.{Stands, completes}
+use Rattle.inner.proofs.Codewords.{lent-same}
+use Rattle.inner.proofs.steps.advance.Statement.{statement}
+use Rattle.inner.proofs.steps.advance.Tie as tie
+
+abbrev Inv-loop : tie.InvT-loop
+Inv-loop f alpha beta starts residues pattern work out₀ to at₀ out at =
+    (at .walk .position .0 ≤ to) × Stands f alpha beta work at × (length out ≡ length out₀)
+    × (completes f alpha beta work at out ≡ completes f alpha beta work at₀ out₀)
+
+abbrev μ-loop : tie.MeasureT-loop
+μ-loop f alpha beta starts residues pattern work out₀ to at₀ out at = to - at .walk .position .0
+
+abbrev start : tie.At-loop Inv-loop μ-loop → tie.Start Inv-loop μ-loop
+start l = l .before .before .before .before .before .before .before .before
+
+-- in a turn, the position is inside the interleaver, and a row of its column is left
+module _ (t : tie.Then1 Inv-loop μ-loop) where
+  abbrev l : tie.At-loop Inv-loop μ-loop
+  l = t .before .before
+
+  inside : l .loop .at .walk .position .0 < M * length (start l .args .alpha .now)
+  inside = omega (arith, t .if1 .taken, start l .pre .1 .2, start l .pre .0 .size)
+
+  column : InColumn (length (start l .args .alpha .now)) (l .loop .at .walk)
+  column = in-column _ (l .loop .at .walk) (l .loop .inv .1 .walked) inside
+
+  left : l .loop .at .walk .position .0 < length (start l .args .alpha .now) * (l .loop .at .walk .column + 1)
+  left = omega (arith, column .position-is, walked-row _ (l .loop .at .walk) (l .loop .inv .1 .walked) inside)
+
+abbrev turn : tie.After-stop Inv-loop μ-loop → tie.Then1 Inv-loop μ-loop
+turn e = e .before
+
+-- where the stretch ends
+further : (e : tie.After-stop Inv-loop μ-loop) → l (turn e) .loop .at .walk .position .0 < e .stop .result
+further e = omega (arith, left (turn e), turn e .if1 .taken, e .stop .ensures)
+
+loop-holds : tie.Need-loop-holds Inv-loop μ-loop
+loop-holds c =
+    let s = c .before .before .before .before .before .before .before in
+    (s .pre .1 .1, s .pre .1 .0, refl, refl)
+
+stop-requires : tie.Need-stop-requires Inv-loop μ-loop
+stop-requires c κs =
+    let narrow = start (l c) .pre .0 .vectors .narrow in
+    (column c, omega (arith, inside c, narrow), narrow)
+
+stretch-requires : tie.Need-stretch-requires Inv-loop μ-loop
+stretch-requires c κs =
+    let e = c .before in
+    let t = turn e in
+    let s = start (l t) in
+    let i = l t .loop .inv in (
+      lent-same (s .pre .0) (i .2),
+      (i .1, further e, omega (arith, e .stop .ensures, s .pre .1 .2), omega (arith, e .stop .ensures)),
+    )
+
+loop-less : tie.Need-loop-less Inv-loop μ-loop
+loop-less c =
+    let e = c .before .before .before .before in
+    omega (arith, further e, turn e .if1 .taken, c .before .before .stretch .ensures .0 .1)
+
+loop-again : tie.Need-loop-again Inv-loop μ-loop
+loop-again c =
+    let r = c .before .before in
+    let e = r .before .before in
+    let i = l (turn e) .loop .inv in
+    (omega (arith, r .stretch .ensures .0 .1, e .stop .ensures), r .stretch .ensures .0 .0, r .stretch .kept .1 .1 .1 .1 .1 .1 .1 .0 ∙ i .2, r .stretch .ensures .1 ∙ i .3)
+
+same-length : tie.Need-same-length Inv-loop μ-loop
+same-length c = c .before .before .loop .inv .2
+
+returns : tie.Need-returns Inv-loop μ-loop
+returns c =
+    let i = c .before .before .loop .inv in
+    ((i .1, omega (arith, c .if1 .left, i .0)), i .3)
+
+pub advance-spec : {M : Type 1} → statement M
+advance-spec =
+    tie.close
+    (tie.spec
+    Inv-loop
+    μ-loop
+    loop-holds
+    stop-requires
+    stretch-requires
+    loop-less
+    loop-again
+    same-length
+    returns)

@@ -1,0 +1,22 @@
+-- At a row of its column the walk's row and column are right; below the last, those of the next column are.
+use mathlib.Core.Path.{refl}
+use native.Mathlib.Omega.{arith}
+use Rattle.interleaver.proofs.Walks.{walked-inside, walked-carried}
+use Rattle.interleaver.proofs.steps.carry.Statement.{statement}
+use Rattle.interleaver.proofs.steps.carry.Tie as tie
+
+returns : tie.Need-returns
+returns c =
+    let s = c .before .before in
+    (refl, walked-inside (s .args .w) (s .args .walk) (s .pre .0) (c .if1 .taken))
+
+add-t5 : tie.Need-add-t5
+add-t5 c = omega (arith, c .before .before .before .before .pre .2)
+
+returns-2 : tie.Need-returns-2
+returns-2 c =
+    let s = c .before .before .before .before in
+    (refl, walked-carried (s .args .w) (s .args .walk) (s .pre .0) (s .pre .1) (c .before .before .if1 .left))
+
+pub carry-spec : {M : Type 1} → statement M
+carry-spec = tie.close (tie.spec returns add-t5 returns-2)
