@@ -23,12 +23,8 @@ pub fn turn(total: usize, delta: usize, mark: u8, u: u8, out: &mut [u8], at: Cod
 {
     let upper = put_marked(mark, u, out, at.upper);
     let matching = puncture::steps::rate_match(total, delta, at.counter);
-    let lower = put(
-        matching.kept,
-        trellis::steps::parity(at.x1, u),
-        out,
-        at.lower,
-    );
+    let parity = trellis::steps::parity(at.x1, u);
+    let lower = put(matching.kept, parity, out, at.lower);
     Coder {
         x0: at.x1,
         x1: trellis::steps::next(at.x0, at.x1, u),

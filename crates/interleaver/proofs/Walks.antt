@@ -1,7 +1,7 @@
 -- A walk's row and column are those that division gives, down a column and over the carry; and what the tables of multiples give at a walk.
 use mathlib.Core.Path.{_≡_, sym, ap, _∙_}
 use mathlib.Core.List.{List}
-use Prim.Native.Nat.{ℕ, _+_, _*_, _%_, _≤_, _<_}
+use Prim.Native.Nat.{ℕ, _+_, _*_, _-_, _%_, _≤_, _<_}
 use native.Mathlib.Nat.{mod-lt, mod-eq-of-lt, mod-add-mod, div-add-mod}
 use native.Mathlib.Omega.{arith}
 use lib.ListN.{length, getD}
@@ -20,12 +20,13 @@ walked-inside W at c h = record {
 }
 
 -- below the last row, where the position is the first of the next column
-pub walked-carried : (W : ℕ) (at : Walk) → InColumn W at → 0 < W → W ≤ at .row → Walked W (record { position = at .position; row = 0; column = at .column + 1 })
+pub walked-carried : (W : ℕ) (at : Walk) → InColumn W at → 0 < W → W ≤ at .row → Walked W (record { position = at .position; row = at .row - W; column = at .column + 1 })
 walked-carried W at c some h =
-    let first : at .position .0 ≡ W * (at .column + 1) + 0 = omega (arith, c .position-is, c .row-low) in
+    let row : at .row - W < W = omega (arith, c .row-low) in
+    let first : at .position .0 ≡ W * (at .column + 1) + (at .row - W) = omega (arith, c .position-is) in
     record {
-      row-is = sym (ap (λ (i : ℕ). i % W) first ∙ row-of W (at .column + 1) 0 some);
-      column-is = sym (rw first (bank-of W (at .column + 1) 0 some));
+      row-is = sym (ap (λ (i : ℕ). i % W) first ∙ row-of W (at .column + 1) (at .row - W) row);
+      column-is = sym (rw first (bank-of W (at .column + 1) (at .row - W) row));
     }
 
 -- the way down starts at any position of the size

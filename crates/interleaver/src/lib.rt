@@ -2,13 +2,17 @@
 ghost use mathlib.Core.Path.{_≡_};
 ghost use mathlib.Core.Bool.{true};
 ghost use Prim.Native.Nat.{_*_, _<_};
+ghost use lib.ListN.{length};
 ghost use Rattle.acm.specs.Formats.{M};
-ghost use Rattle.annex_c.specs.AnnexC.{isSize, sizeOf};
+ghost use Rattle.annex_c.specs.AnnexC.{Vectors, isSize, sizeOf};
 ghost use Rattle.interleaver.specs.Interleaver.{permuted, answerOf, interleavedAt};
 ghost use Rattle.interleaver.specs.Provenance.{provenanceOf, provenanceAt};
 use acm::Found;
 
 pub mod steps;
+
+// Banks of an interleaver.
+const M: usize = 120;
 
 // A position in the upper register, i of the standard (document 01: a place in the upper register).
 pub struct UpperPosition(pub usize);
@@ -56,7 +60,21 @@ fn in_size(w: usize, position: UpperPosition) -> InterleavedPosition
     let mut alpha = [0u16; annex_c_tables::steps::WIDEST];
     let mut beta = [0u8; annex_c_tables::steps::WIDEST];
     annex_c_tables::steps::load(w, &mut alpha, &mut beta);
-    steps::interleaved(&alpha[..w], &beta[..w], position)
+    permute(&alpha[..w], &beta[..w], position)
+}
+
+// The interleaved position by equation A-1, over any two vectors.
+fn permute(alpha: &[u16], beta: &[u8], position: UpperPosition) -> InterleavedPosition
+    requires { ⌜ Vectors (now alpha) (now beta) ⌝ }
+    requires { ⌜ position .0 < M * length (now alpha) ⌝ }
+    ensures { λ r. ⌜ r .0 ≡ permuted (now (alpha .entry)) (now (beta .entry)) (position .0) ⌝ }
+{
+    let w = alpha.len();
+    let i = position.0;
+    let row = i % w;
+    let shift = beta[row] as usize;
+    let address = alpha[row] as usize;
+    InterleavedPosition(w * ((i / w + shift) % M) + address)
 }
 
 // Where the rows of a format's interleaver come from.

@@ -1,4 +1,4 @@
-// Opened to the inner encoder alone: the interleaved position of one position, and a walk over positions in order.
+// Opened to the inner encoder alone: a walk over the positions in order.
 ghost use mathlib.Core.Path.{_≡_};
 ghost use Prim.Native.Nat.{ℕ, _+_, _*_, _%_, _≤_, _<_, min};
 ghost use lib.ListN.{length, getD};
@@ -7,36 +7,8 @@ ghost use Rattle.annex_c.specs.AnnexC.{Vectors, widest};
 ghost use Rattle.interleaver.specs.Interleaver.{permuted};
 ghost use Rattle.interleaver.specs.Walk.{Walked, InColumn, Multiples, downOne, bankSum};
 use crate::InterleavedPosition;
+use crate::M;
 use crate::UpperPosition;
-
-// Banks of an interleaver.
-const M: usize = 120;
-
-// The interleaved position by equation A-1, over any two vectors. Nothing else makes an InterleavedPosition.
-pub fn interleaved(alpha: &[u16], beta: &[u8], position: UpperPosition) -> InterleavedPosition
-    requires { ⌜ Vectors (now alpha) (now beta) ⌝ }
-    requires { ⌜ position .0 < M * length (now alpha) ⌝ }
-    ensures { λ r. ⌜ r .0 ≡ permuted (now (alpha .entry)) (now (beta .entry)) (position .0) ⌝ }
-    ensures { λ r. ⌜ r .0 < M * length (now (alpha .entry)) ⌝ }
-{
-    let w = alpha.len();
-    let i = position.0;
-    let row = i % w;
-    let shift = beta[row] as usize;
-    let address = alpha[row] as usize;
-    InterleavedPosition(w * reduced(i / w + shift, M) + address)
-}
-
-// A number below twice the modulus, modulo it: no division.
-fn reduced(number: usize, modulus: usize) -> usize
-    requires { ⌜ number < 2 * modulus ⌝ }
-    ensures { λ r. ⌜ r ≡ number % modulus ⌝ }
-{
-    if number < modulus {
-        return number;
-    }
-    number - modulus
-}
 
 // A walk over the positions in order: where it stands, and the row and column of that position as running values. Only the interleaver
 // makes one.
@@ -81,7 +53,7 @@ pub fn down(walk: Walk) -> Walk
     }
 }
 
-// The carry: below its column's last row a walk goes on at the first row of the next column. Elsewhere it stays.
+// The carry: from below its column's last row a walk goes on at the first row of the next column. Elsewhere it stays.
 pub fn carry(walk: Walk, w: usize) -> Walk
     requires { ⌜ InColumn w walk × (0 < w) × (walk .column < M) ⌝ }
     ensures { λ r. ⌜ (r .position .0 ≡ walk .position .0) × Walked w r ⌝ }
@@ -92,7 +64,7 @@ pub fn carry(walk: Walk, w: usize) -> Walk
     let position = walk.position;
     Walk {
         position,
-        row: 0,
+        row: walk.row - w,
         column: walk.column + 1,
     }
 }
@@ -146,4 +118,15 @@ pub fn multiples(w: usize, period: usize) -> [u16; BANKS]
         bank += 1;
     }
     out
+}
+
+// A number below twice the modulus, modulo it: no division.
+fn reduced(number: usize, modulus: usize) -> usize
+    requires { ⌜ number < 2 * modulus ⌝ }
+    ensures { λ r. ⌜ r ≡ number % modulus ⌝ }
+{
+    if number < modulus {
+        return number;
+    }
+    number - modulus
 }

@@ -36,17 +36,17 @@ load-requires c κs =
 array-share-prefix-alpha : tie.Need-array-share-prefix-alpha
 array-share-prefix-alpha c = omega (arith, narrow (start (c .before .before)))
 
-slice-aggregate-interleaved : tie.Need-slice-aggregate-interleaved
-slice-aggregate-interleaved c = simp length-take (omega (arith, narrow (start (c .before .before .before))))
+slice-aggregate-permute : tie.Need-slice-aggregate-permute
+slice-aggregate-permute c = simp length-take (omega (arith, narrow (start (c .before .before .before))))
 
 array-share-prefix-beta : tie.Need-array-share-prefix-beta
 array-share-prefix-beta c = omega (arith, narrow (start (c .before .before .before)))
 
-slice-aggregate-interleaved-2 : tie.Need-slice-aggregate-interleaved-2
-slice-aggregate-interleaved-2 c = simp length-take (omega (arith, narrow (start (c .before .before .before .before))))
+slice-aggregate-permute-2 : tie.Need-slice-aggregate-permute-2
+slice-aggregate-permute-2 c = simp length-take (omega (arith, narrow (start (c .before .before .before .before))))
 
-interleaved-requires : tie.Need-interleaved-requires
-interleaved-requires c κs =
+permute-requires : tie.Need-permute-requires
+permute-requires c κs =
     let l = c .before .before .before .before in
     let s = start l in (
       rw (α l, β l) (size-vectors (s .args .w) (s .pre .0)),
@@ -56,7 +56,7 @@ interleaved-requires c κs =
 returns : tie.Need-returns
 returns c =
     let l = c .before .before .before .before .before in
-    c .interleaved .ensures .0 ∙ rw (α l, β l)
+    c .permute .ensures ∙ rw (α l, β l)
 
 pub in-size-spec : {M : Type 1} → statement M
 in-size-spec =
@@ -66,8 +66,8 @@ in-size-spec =
     slice-aggregate-load-2
     load-requires
     array-share-prefix-alpha
-    slice-aggregate-interleaved
+    slice-aggregate-permute
     array-share-prefix-beta
-    slice-aggregate-interleaved-2
-    interleaved-requires
+    slice-aggregate-permute-2
+    permute-requires
     returns)

@@ -62,7 +62,7 @@ module _ (p : tie.After-laid-out) where
   starts = rw (record-is .parameters .ensures) at (p .before .before .multiples .ensures)
 
   residues : Multiples (formatOf f .w) period (p .before .multiples2 .result)
-  residues = rw (w-is record-is) at (p .before .multiples2 .ensures)
+  residues = subst (λ (w : ℕ). Multiples w period (p .before .multiples2 .result)) (w-is record-is) (p .before .multiples2 .ensures)
 
   pattern : LaidOut (formatOf f .survivors) (p .laid-out .result)
   pattern = rw (record-is .parameters .ensures) at (p .laid-out .ensures)

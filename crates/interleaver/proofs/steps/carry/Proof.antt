@@ -10,13 +10,13 @@ returns c =
     let s = c .before .before in
     (refl, walked-inside (s .args .w) (s .args .walk) (s .pre .0) (c .if1 .taken))
 
-add-t5 : tie.Need-add-t5
-add-t5 c = omega (arith, c .before .before .before .before .pre .2)
+add-t6 : tie.Need-add-t6
+add-t6 c = omega (arith, c .before .before .before .before .before .pre .2)
 
 returns-2 : tie.Need-returns-2
 returns-2 c =
-    let s = c .before .before .before .before in
-    (refl, walked-carried (s .args .w) (s .args .walk) (s .pre .0) (s .pre .1) (c .before .before .if1 .left))
+    let s = c .before .before .before .before .before in
+    (refl, walked-carried (s .args .w) (s .args .walk) (s .pre .0) (s .pre .1) (c .before .before .before .if1 .left))
 
 pub carry-spec : {M : Type 1} → statement M
-carry-spec = tie.close (tie.spec returns add-t5 returns-2)
+carry-spec = tie.close (tie.spec returns add-t6 returns-2)

@@ -6,8 +6,8 @@ use lib.ListN.{length}
 use Rattle.acm.specs.Formats.{M}
 use Rattle.interleaver.specs.Interleaver.{permuted}
 use Rattle.interleaver.proofs.Laws.{row-low, bank-low, permuted-below}
-use Rattle.interleaver.proofs.steps.interleaved.Statement.{statement}
-use Rattle.interleaver.proofs.steps.interleaved.Tie as tie
+use Rattle.interleaver.proofs.permute.Statement.{statement}
+use Rattle.interleaver.proofs.permute.Tie as tie
 
 module _ (c : tie.Start) where
   row : c .args .position .0 % length (c .args .alpha .now) < length (c .args .alpha .now)
@@ -20,62 +20,57 @@ module _ (c : tie.Start) where
   address = permuted-below _ _ (c .pre .0) _ (c .pre .1)
 
 rem-row : tie.Need-rem-row
-rem-row c = omega (arith, row (c .before .before))
+rem-row c = omega (arith, row c)
 
 shared-slice-read-shift : tie.Need-shared-slice-read-shift
 shared-slice-read-shift c =
-    let s = c .before .before .before in
+    let s = c .before in
     omega (arith, row s, s .pre .0)
 
 cast-shift : tie.Need-cast-shift
 cast-shift c =
-    let s = c .before .before .before in
+    let s = c .before in
     omega (arith, s .pre .0 .β-range _ (row s))
 
 mul-address : tie.Need-mul-address
 mul-address c =
-    let s = c .before .before .before in
+    let s = c .before in
     omega (arith, row s, s .pre .0)
 
 shared-slice-read-address : tie.Need-shared-slice-read-address
-shared-slice-read-address c = omega (arith, row (c .before .before .before .before))
+shared-slice-read-address c = omega (arith, row (c .before .before))
 
 cast-address : tie.Need-cast-address
 cast-address c =
-    let s = c .before .before .before .before in
+    let s = c .before .before in
     omega (arith, s .pre .0, s .pre .0 .α-range _ (row s))
 
-div-reduced : tie.Need-div-reduced
-div-reduced c = omega (arith, row (c .before .before .before .before))
+div-t11 : tie.Need-div-t11
+div-t11 c = omega (arith, row (c .before .before))
 
-add-reduced : tie.Need-add-reduced
-add-reduced c =
-    let s = c .before .before .before .before in
-    omega (arith, turn s, s .pre .0 .β-range _ (row s))
-
-reduced-requires : tie.Need-reduced-requires
-reduced-requires c κs =
-    let s = c .before .before .before .before in
+add-t14 : tie.Need-add-t14
+add-t14 c =
+    let s = c .before .before in
     omega (arith, turn s, s .pre .0 .β-range _ (row s))
 
 mul-t16 : tie.Need-mul-t16
 unfolding permuted
 mul-t16 c =
-    let s = c .before .before .before .before .before in
-    rw (c .reduced .ensures) (omega (arith, address s, s .pre .0))
+    let s = c .before .before in
+    omega (arith, address s, s .pre .0)
 
 add-t17 : tie.Need-add-t17
 unfolding permuted
 add-t17 c =
-    let s = c .before .before .before .before .before in
-    rw (c .reduced .ensures) (omega (arith, address s, s .pre .0))
+    let s = c .before .before in
+    omega (arith, address s, s .pre .0)
 
 returns : tie.Need-returns
 unfolding permuted
-returns c = rw (c .reduced .ensures) (refl, address (c .before .before .before .before .before))
+returns c = refl
 
-pub interleaved-spec : {M : Type 1} → statement M
-interleaved-spec =
+pub permute-spec : {M : Type 1} → statement M
+permute-spec =
     tie.close
     (tie.spec
     rem-row
@@ -84,9 +79,8 @@ interleaved-spec =
     mul-address
     shared-slice-read-address
     cast-address
-    div-reduced
-    add-reduced
-    reduced-requires
+    div-t11
+    add-t14
     mul-t16
     add-t17
     returns)
