@@ -26,7 +26,7 @@ use Rattle.puncture.specs.Puncture.{period, LaidOut, survives, punctured, rateM
 use Rattle.puncture.proofs.Count as count
 use Rattle.puncture.proofs.Kept.{kept-bits}
 use Rattle.puncture.proofs.Matched.{rate-matched-bits}
-use Rattle.inner.specs.Coder.{starting, Fits}
+use Rattle.inner.specs.Left.{starting, Fits}
 use Rattle.inner.specs.Registers.{readFrom, upper, lower, registers, interleaved, fromOuter}
 use Rattle.inner.specs.Lent.{Lent, written}
 use Rattle.inner.proofs.Turns.{lower-start, reads-all}

@@ -14,9 +14,10 @@ use Rattle.acm.specs.declared.table.Format.{Format}
 use Rattle.trellis.specs.Trellis.{State, zero-state, parity, next, parities, ends, termination}
 use Rattle.puncture.specs.Puncture.{survives, keptAt, counted, counterStart, countedFrom}
 use Rattle.puncture.proofs.Matched.{rate-matched-counted}
-use Rattle.inner.specs.Coder.{stateIn, starting, turned, stored, finished, reads, upperFrom, lowerFrom, upperLeft, lowerLeft, completed, Fits}
+use Rattle.coder.specs.Coder.{stateIn, turned, stored, finished}
+use Rattle.coder.specs.declared.steps.Coder.{Coder}
+use Rattle.inner.specs.Left.{starting, reads, upperFrom, lowerFrom, upperLeft, lowerLeft, completed, Fits}
 use Rattle.inner.specs.Registers.{readFrom, upper, lower, registers, interleaved}
-use Rattle.inner.specs.declared.coder.Coder.{Coder}
 use Rattle.inner.proofs.Registers.{Two, two-as, two-put-upper, two-put-lower, two-room-upper, two-room-lower}
 
 -- the terminating bits are always left

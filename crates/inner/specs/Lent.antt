@@ -10,7 +10,7 @@ use Rattle.annex_c.specs.AnnexC.{Vectors}
 use Rattle.interleaver.specs.Interleaver.{permuted}
 use Rattle.interleaver.specs.Walk.{Walked, Multiples}
 use Rattle.puncture.specs.Puncture.{period, LaidOut}
-use Rattle.inner.specs.Coder.{completed, Fits}
+use Rattle.inner.specs.Left.{completed, Fits}
 use Rattle.inner.specs.Registers.{interleaved, registers}
 use Rattle.inner.specs.declared.steps.Progress.{Progress}
 

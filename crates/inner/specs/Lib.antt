@@ -1,3 +1,3 @@
-pub mod Coder
+pub mod Left
 pub mod Lent
 pub mod Registers

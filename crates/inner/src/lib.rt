@@ -1,3 +1,2 @@
 // The inner encoder (4.2 to 4.4), from the outer kept bits to the codeword.
-mod coder;
 pub mod steps;

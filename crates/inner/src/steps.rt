@@ -10,10 +10,9 @@ ghost use Rattle.acm.specs.Formats.{isFormat, formatOf};
 ghost use Rattle.interleaver.specs.Interleaver.{permuted};
 ghost use Rattle.inner.specs.Registers.{fromOuter};
 ghost use Rattle.inner.specs.Lent.{Lent, Stands, completes, written};
-ghost use Rattle.inner.specs.Coder.{starting, Fits};
-use crate::coder;
-use crate::coder::Coder;
+ghost use Rattle.inner.specs.Left.{starting, Fits};
 use acm::Format;
+use coder::steps::Coder;
 use interleaver::steps::Walk;
 
 // The codeword of the outer kept bits at the front of work, to the front of out.
@@ -76,7 +75,7 @@ fn write(
         Progress { walk, coder },
         f.i,
     );
-    coder::finish(end.coder, out);
+    coder::steps::finish(end.coder, out);
 }
 
 // Where a run over the positions stands.
@@ -145,7 +144,7 @@ fn stretch(
     while walk.position.0 < to {
         let position = interleaver::steps::interleaved_at(starts, alpha, beta, walk);
         let residue = interleaver::steps::residue_at(residues, alpha, beta, walk);
-        coder = coder::turn(
+        coder = coder::steps::turn(
             f.i,
             f.delta,
             pattern[residue],

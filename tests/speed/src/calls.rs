@@ -127,9 +127,10 @@ impl Call {
     /// The ratio of times that the library is to stay below.
     pub fn aim(self) -> f64 {
         match self {
-            Call::Encode | Call::Labels => 3.0,
+            Call::Labels => 3.0,
             Call::Frame => 2.0,
-            Call::CompareSame
+            Call::Encode
+            | Call::CompareSame
             | Call::CompareDiffer
             | Call::PushUsual
             | Call::PushLongest

@@ -13,7 +13,7 @@ use Rattle.interleaver.proofs.Walks.{walked-inside, walked-column, in-column, i
 use Rattle.puncture.specs.Puncture.{period, survives}
 use Rattle.puncture.proofs.Laid.{laid-survives}
 use Rattle.puncture.proofs.Zeroed.{pattern-low}
-use Rattle.inner.specs.Coder.{completed}
+use Rattle.inner.specs.Left.{completed}
 use Rattle.inner.proofs.Turns.{Going, going-start, going-fits, going-rooms, going-turn, counter-low}
 use Rattle.inner.proofs.steps.stretch.Statement.{statement}
 use Rattle.inner.proofs.steps.stretch.Tie as tie

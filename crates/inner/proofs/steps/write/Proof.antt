@@ -4,7 +4,7 @@ use Prim.Native.Nat.{ℕ}
 use native.Mathlib.Omega.{arith}
 use borrow.Author.Needs.{needs}
 use Rattle.interleaver.specs.Interleaver.{permuted}
-use Rattle.inner.specs.Coder.{starting, completed}
+use Rattle.inner.specs.Left.{starting, completed}
 use Rattle.inner.proofs.Turns.{completed-start, completed-end, end-rooms}
 use Rattle.inner.proofs.steps.write.Statement.{statement}
 use Rattle.inner.proofs.steps.write.Tie as tie

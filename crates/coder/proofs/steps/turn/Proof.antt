@@ -9,10 +9,10 @@ use Rattle.bits.specs.Choice.{if_then_else_}
 use Rattle.trellis.specs.Trellis.{next}
 use Rattle.puncture.specs.Puncture.{counted}
 use Rattle.puncture.specs.declared.steps.Matching.{Matching}
-use Rattle.inner.specs.Coder.{stateIn, turned}
-use Rattle.inner.specs.declared.coder.Coder.{Coder}
-use Rattle.inner.proofs.coder.turn.Statement.{statement}
-use Rattle.inner.proofs.coder.turn.Tie as tie
+use Rattle.coder.specs.Coder.{stateIn, turned}
+use Rattle.coder.specs.declared.steps.Coder.{Coder}
+use Rattle.coder.proofs.steps.turn.Statement.{statement}
+use Rattle.coder.proofs.steps.turn.Tie as tie
 
 fields : (I Δ mark u : ℕ) (at : Coder) {m : Matching} {y n q : ℕ} → m ≡ counted I Δ (at .counter) → y ≡ next (stateIn at) u .1
     → n ≡ (if eqb mark 1 then at .upper + 1 else at .upper) → q ≡ (if m .kept then at .lower + 1 else at .lower)

@@ -1,10 +1,10 @@
-// The inner trellis and both registers, a bit at a time.
+// Opened to the inner encoder alone: one bit, and the terminating steps.
 ghost use mathlib.Core.Path.{_≡_};
 ghost use Prim.Native.Nat.{_+_, _^_, _≤_, _<_};
 ghost use lib.ListN.{length, set};
 ghost use lib.Dec.{eqb};
 ghost use Rattle.bits.specs.Choice.{if_then_else_};
-ghost use Rattle.inner.specs.Coder.{turned, stored, finished};
+ghost use Rattle.coder.specs.Coder.{turned, stored, finished};
 
 // Where the inner encoder stands: the trellis' state x0, x1, where each register goes on, and the counter of rate matching.
 pub struct Coder {

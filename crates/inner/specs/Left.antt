@@ -1,42 +1,19 @@
--- The inner encoder on its way through the positions: a turn, what is left of each register, and the output that this completes.
+-- The inner encoder on its way through the positions: what is left of each register, and the output that this completes.
 use mathlib.Core.Path.{_≡_}
 use mathlib.Core.List.{List, _++_}
 use Prim.Native.Nat.{ℕ, _+_, _-_, _≤_, _<_}
-use lib.Dec.{eqb}
-use lib.ListN.{length, set}
+use lib.ListN.{length}
 use lib.Seq.{sets}
-use Rattle.bits.specs.Choice.{if_then_else_}
 use Rattle.acm.specs.declared.table.Format.{Format}
-use Rattle.trellis.specs.Trellis.{State, parity, next, parities, ends, termination}
-use Rattle.puncture.specs.Puncture.{survives, keptAt, counted, counterStart, countedFrom}
+use Rattle.trellis.specs.Trellis.{State, parities, ends, termination}
+use Rattle.puncture.specs.Puncture.{survives, keptAt, counterStart, countedFrom}
+use Rattle.coder.specs.Coder.{stateIn}
+use Rattle.coder.specs.declared.steps.Coder.{Coder}
 use Rattle.inner.specs.Registers.{readFrom}
-use Rattle.inner.specs.declared.coder.Coder.{Coder}
-
-abbrev pub stateIn : Coder → State
-stateIn c = (c .x0, c .x1)
 
 -- at the first position: S is where the lower register starts
 abbrev pub starting : Format → Coder
 starting r = record { x0 = 0; x1 = 0; upper = 0; lower = r .s; counter = counterStart (r .delta) }
-
--- a turn on the bit u, whose mark is 1 where the upper register keeps it: the coder and the output
-abbrev pub turned : ℕ → ℕ → ℕ → ℕ → Coder → Coder
-turned I Δ mark u c = record {
-  x0 = c .x1;
-  x1 = next (stateIn c) u .1;
-  upper = if eqb mark 1 then c .upper + 1 else c .upper;
-  lower = if counted I Δ (c .counter) .kept then c .lower + 1 else c .lower;
-  counter = counted I Δ (c .counter) .counter;
-}
-
-abbrev pub stored : ℕ → Coder → List ℕ → List ℕ
-stored u c out = set (set out (c .upper) u) (c .lower) (parity (stateIn c) u)
-
--- the terminating bits
-abbrev pub finished : Coder → List ℕ → List ℕ
-finished c out =
-    let t = termination (stateIn c) in
-    sets (sets out (c .upper) t) (c .lower) (parities (stateIn c) t)
 
 -- what it has yet to read at time i
 abbrev pub reads : (ℕ → ℕ) → List ℕ → ℕ → ℕ → List ℕ

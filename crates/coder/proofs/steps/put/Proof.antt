@@ -1,8 +1,8 @@
 -- Each return rewrites with whether the bit is kept.
 use mathlib.Core.Path.{refl}
 use borrow.Author.Needs.{needs}
-use Rattle.inner.proofs.coder.put.Statement.{statement}
-use Rattle.inner.proofs.coder.put.Tie as tie
+use Rattle.coder.proofs.steps.put.Statement.{statement}
+use Rattle.coder.proofs.steps.put.Tie as tie
 
 slice-write-out : tie.Need-slice-write-out
 slice-write-out c = search needs

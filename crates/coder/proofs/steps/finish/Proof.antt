@@ -3,8 +3,8 @@ use native.Mathlib.Numerals.{add-one}
 use native.Mathlib.Omega.{arith}
 use borrow.Author.Needs.{needs}
 use lib.ListN.{length-set}
-use Rattle.inner.proofs.coder.finish.Statement.{statement}
-use Rattle.inner.proofs.coder.finish.Tie as tie
+use Rattle.coder.proofs.steps.finish.Statement.{statement}
+use Rattle.coder.proofs.steps.finish.Tie as tie
 
 terminate-requires : tie.Need-terminate-requires
 terminate-requires c κs = search needs

@@ -5,8 +5,8 @@ use native.Mathlib.Omega.{arith}
 use borrow.Author.Needs.{needs}
 use lib.Dec.{eqb}
 use Rattle.bits.specs.Choice.{if_then_else_}
-use Rattle.inner.proofs.coder.put_marked.Statement.{statement}
-use Rattle.inner.proofs.coder.put_marked.Tie as tie
+use Rattle.coder.proofs.steps.put_marked.Statement.{statement}
+use Rattle.coder.proofs.steps.put_marked.Tie as tie
 
 marked : (mark at : ℕ) → mark ≤ 1 → at + mark ≡ (if eqb mark 1 then at + 1 else at)
 marked zero at low = omega arith
