@@ -100,7 +100,7 @@ fn looked_up(banks: &[u16], alpha: &[u16], beta: &[u8], walk: Walk) -> usize
 }
 
 // The banks of any column and any β: 0 to M - 1, twice over, so that their sum needs no modulo.
-const BANKS: usize = 240;
+const BANKS: usize = 2 * M;
 
 // W × bank modulo a period, for each of them, made by adding W.
 pub fn multiples(w: usize, period: usize) -> [u16; BANKS]

@@ -11,7 +11,7 @@ mod table;
 pub const PERIOD: usize = 300;
 
 // Three periods.
-pub const LAID_OUT: usize = 900;
+pub const LAID_OUT: usize = 3 * PERIOD;
 
 // Positions of table 4-2: the most that a pattern punctures.
 const MOST_PUNCTURED: usize = 100;
