@@ -102,7 +102,7 @@ module _ (f : ℕ) (h : isFormat f ≡ true) {r : Format} {α β : List ℕ} (is
   pub lent-of : {starts residues pat : List ℕ} → Multiples (formatOf f .w) (formatOf f .i) starts → Multiples (formatOf f .w) period residues
       → LaidOut (formatOf f .survivors) pat → (work out : List ℕ) → formatOf f .i ≤ length work → formatOf f .n ≤ length out
       → Lent r α β starts residues pat work out
-  lent-of {starts} {residues} starts-are residues-are pat-is work out hw ho =
+  lent-of starts-are residues-are pat-is work out hw ho =
       let w = α-rows (formatOf f .w) (format-size f h) in
       rw (is, α-is, β-is)
       (record {

@@ -7,9 +7,9 @@ use borrow.Author.Tests.{leb-true, leb-false}
 use lib.Dec.{eqb, leb}
 use lib.ListN.{length, getD, length-append}
 use lib.Seq.{sets}
-use Rattle.bits.proofs.Fill.{sets-append}
 use Rattle.bits.specs.Choice.{if_then_else_}
 use Rattle.bits.proofs.Cases.{by-cases}
+use Rattle.bits.proofs.Fill.{sets-append}
 use Rattle.acm.specs.declared.table.Format.{Format}
 use Rattle.trellis.specs.Trellis.{State, zero-state, parity, next, parities, ends, termination}
 use Rattle.puncture.specs.Puncture.{survives, keptAt, counted, counterStart, countedFrom}
@@ -102,7 +102,7 @@ module _ (r : Format) (ρ : ℕ → ℕ) (work : List ℕ) where
         rw marked (two-put-lower (matching .kept) (parity x u) L (lower-left (r .i) (r .delta) (matching .counter) (next x u) bits)
         (two-as refl (lower-turn ρ work (r .i) i x h bit (r .delta) (c .counter)) above))
 
-  -- at the start both registers are
+  -- at the start both registers are left, whole
   pub completed-start : (out : List ℕ) → r .delta ≤ r .i → Fits r ρ work 0 (starting r)
       → completed r ρ work 0 (starting r) out ≡ sets out 0 (registers r ρ (interleaved r ρ work))
   completed-start out d fits =
@@ -112,13 +112,12 @@ module _ (r : Format) (ρ : ℕ → ℕ) (work : List ℕ) where
       let S : r .s ≡ 0 + length U = sym (fits .upper-ends) ∙ ap (λ (l : List ℕ). 0 + length (upperFrom (r .survivors) ρ 0 zero-state l)) (reads-all ρ work (r .i)) in
       rw (reads-all ρ work (r .i), ← lower-start (r .i) (r .delta) bits d) (ap (λ (k : ℕ). sets (sets out 0 U) k L) S ∙ sym (sets-append out 0 U L))
 
-  -- at the end the terminating bits are left
+  -- at the end the terminating bits are
   pub completed-end : (i : ℕ) (c : Coder) (out : List ℕ) → r .i ≤ i → completed r ρ work i c out ≡ finished c out
   completed-end i c out h = rw (read-end ρ work (r .i) i h)
 
   pub end-rooms : (i : ℕ) (c : Coder) → r .i ≤ i → Fits r ρ work i c → (c .upper + 1 < r .n) × (c .lower + 1 < r .n)
   end-rooms i c h fits =
-      let f : Fits r ρ work i c = fits in
       let up = ap (λ (l : List ℕ). c .upper + length (upperFrom (r .survivors) ρ i (stateIn c) l)) (read-end ρ work (r .i) i h) in
       let low = ap (λ (l : List ℕ). c .lower + length (lowerFrom (r .i) (r .delta) (c .counter) (stateIn c) l)) (read-end ρ work (r .i) i h) in
-      (omega (arith, up, low, f .upper-ends, f .lower-ends, f .apart), omega (arith, low, f .lower-ends))
+      (omega (arith, up, low, fits .upper-ends, fits .lower-ends, fits .apart), omega (arith, low, fits .lower-ends))
