@@ -2,6 +2,7 @@
 use mathlib.Core.Path.{refl}
 use Prim.Native.Nat.{_*_, _/_, _%_, _<_}
 use native.Mathlib.Omega.{arith}
+use borrow.Author.Needs.{needs}
 use lib.ListN.{length}
 use Rattle.acm.specs.Formats.{M}
 use Rattle.interleaver.specs.Interleaver.{permuted}
@@ -20,7 +21,7 @@ module _ (c : tie.Start) where
   address = permuted-below _ _ (c .pre .0) _ (c .pre .1)
 
 rem-row : tie.Need-rem-row
-rem-row c = omega (arith, row c)
+rem-row c = search needs
 
 shared-slice-read-shift : tie.Need-shared-slice-read-shift
 shared-slice-read-shift c =
@@ -46,7 +47,7 @@ cast-address c =
     omega (arith, s .pre .0, s .pre .0 .α-range _ (row s))
 
 div-t11 : tie.Need-div-t11
-div-t11 c = omega (arith, row (c .before .before))
+div-t11 c = search needs
 
 add-t14 : tie.Need-add-t14
 add-t14 c =

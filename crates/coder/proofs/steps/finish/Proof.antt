@@ -10,13 +10,13 @@ terminate-requires : tie.Need-terminate-requires
 terminate-requires c κs = search needs
 
 slice-write-out : tie.Need-slice-write-out
-slice-write-out c = omega (arith, c .before .before .pre .0)
+slice-write-out c = search needs
 
 add-out : tie.Need-add-out
 add-out c = search needs
 
 slice-write-out-2 : tie.Need-slice-write-out-2
-slice-write-out-2 c = simp length-set (c .before .before .pre .0)
+slice-write-out-2 c = search needs
 
 slice-write-out-3 : tie.Need-slice-write-out-3
 slice-write-out-3 c = simp length-set (omega (arith, c .before .before .pre .1))
@@ -25,7 +25,7 @@ add-out-2 : tie.Need-add-out-2
 add-out-2 c = search needs
 
 slice-write-out-4 : tie.Need-slice-write-out-4
-slice-write-out-4 c = simp length-set (c .before .before .pre .1)
+slice-write-out-4 c = search needs
 
 same-length : tie.Need-same-length
 same-length c = search needs

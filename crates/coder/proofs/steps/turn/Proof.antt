@@ -4,7 +4,7 @@ use mathlib.Core.List.{List}
 use Prim.Native.Nat.{ℕ, _+_}
 use borrow.Author.Needs.{needs}
 use lib.Dec.{eqb}
-use lib.ListN.{set, length-set}
+use lib.ListN.{set}
 use Rattle.bits.specs.Choice.{if_then_else_}
 use Rattle.trellis.specs.Trellis.{next}
 use Rattle.puncture.specs.Puncture.{counted}
@@ -30,22 +30,16 @@ abbrev start : tie.After-put-marked → tie.Start
 start u = u .before .before .before
 
 put-marked-requires : tie.Need-put-marked-requires
-put-marked-requires c κs =
-    let p = c .before .before .pre in
-    (p .0, p .1)
+put-marked-requires c κs = search needs
 
 rate-match-requires : tie.Need-rate-match-requires
-rate-match-requires c κs =
-    let p = start (c .before .before) .pre in
-    (p .3, p .4)
+rate-match-requires c κs = search needs
 
 parity-requires : tie.Need-parity-requires
 parity-requires c κs = search needs
 
 put-requires : tie.Need-put-requires
-put-requires c κs =
-    let u = c .before .before .before .before .before in
-    rw (u .put-marked .ensures .1) (simp length-set (start u .pre .2))
+put-requires c κs = search needs
 
 next-requires : tie.Need-next-requires
 next-requires c κs = search needs

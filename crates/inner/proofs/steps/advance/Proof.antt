@@ -2,6 +2,7 @@
 use mathlib.Core.Path.{_≡_, refl, _∙_}
 use Prim.Native.Nat.{_+_, _*_, _-_, _≤_, _<_}
 use native.Mathlib.Omega.{arith}
+use borrow.Author.Needs.{needs}
 use lib.ListN.{length}
 use Rattle.acm.specs.Formats.{M}
 use Rattle.interleaver.specs.Walk.{InColumn}
@@ -76,7 +77,7 @@ loop-again c =
     (omega (arith, r .stretch .ensures .0 .1, e .stop .ensures), r .stretch .ensures .0 .0, r .stretch .kept .1 .1 .1 .1 .1 .1 .1 .0 ∙ i .2, r .stretch .ensures .1 ∙ i .3)
 
 same-length : tie.Need-same-length Inv-loop μ-loop
-same-length c = c .before .before .loop .inv .2
+same-length c = search needs
 
 returns : tie.Need-returns Inv-loop μ-loop
 returns c =

@@ -156,7 +156,7 @@ carry-requires c κs =
     (l .loop .inv .1, omega (arith, s .pre .1 .1, s .pre .1 .2, s .pre .0 .size), rw (l .loop .inv .2) column)
 
 same-length : tie.Need-same-length Inv-loop μ-loop
-same-length c = c .before .before .before .loop .inv .4 .same
+same-length c = search needs
 
 returns : tie.Need-returns Inv-loop μ-loop
 returns c =

@@ -1,6 +1,6 @@
 -- At a row of its column the walk's row and column are right; below the last, those of the next column are.
 use mathlib.Core.Path.{refl}
-use native.Mathlib.Omega.{arith}
+use borrow.Author.Needs.{needs}
 use Rattle.interleaver.proofs.Walks.{walked-inside, walked-carried}
 use Rattle.interleaver.proofs.steps.carry.Statement.{statement}
 use Rattle.interleaver.proofs.steps.carry.Tie as tie
@@ -11,7 +11,7 @@ returns c =
     (refl, walked-inside (s .args .w) (s .args .walk) (s .pre .0) (c .if1 .taken))
 
 add-t6 : tie.Need-add-t6
-add-t6 c = omega (arith, c .before .before .before .before .before .pre .2)
+add-t6 c = search needs
 
 returns-2 : tie.Need-returns-2
 returns-2 c =

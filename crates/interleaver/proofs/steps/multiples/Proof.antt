@@ -22,7 +22,7 @@ low : (c : tie.At-loop Inv-loop μ-loop) → c .loop .multiple < c .before .args
 low c = rw (c .loop .inv .2) (mod-lt _ (c .before .pre .0))
 
 rem-step : tie.Need-rem-step Inv-loop μ-loop
-rem-step c = omega (arith, c .pre .0)
+rem-step c = search needs
 
 loop-holds : tie.Need-loop-holds Inv-loop μ-loop
 loop-holds c = (search needs, refl, rw (mul-zero (c .args .w), zero-mod (c .args .period)), λ k h. absurd (omega arith))
@@ -62,7 +62,7 @@ add-bank : tie.Need-add-bank Inv-loop μ-loop
 add-bank c = search needs
 
 loop-less : tie.Need-loop-less Inv-loop μ-loop
-loop-less c = omega (arith, c .before .loop-test .taken)
+loop-less c = search needs
 
 loop-again : tie.Need-loop-again Inv-loop μ-loop
 loop-again c =
