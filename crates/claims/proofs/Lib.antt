@@ -1,5 +1,6 @@
 pub mod CodedBits
 pub mod Comparison
 pub mod Demand3
+pub mod Look
 pub mod Readings
 pub mod Stream

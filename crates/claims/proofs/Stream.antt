@@ -1,5 +1,5 @@
 -- What holds of a channel before a call holds of it afterwards, whatever the call.
-use mathlib.Core.Path.{_≡_, refl, sym, ap, _∙_}
+use mathlib.Core.Path.{_≡_, refl, sym, ap, subst, _∙_}
 use mathlib.Core.Bool.{true, false, false≢true}
 use mathlib.Core.List.{List, [], _∷_, _++_, append-assoc}
 use Prim.Native.Nat.{ℕ, _+_, _-_, _≤_}
@@ -20,10 +20,11 @@ use Rattle.transfer.proofs.Marked.{marked-length, marked-bits, stream-last}
 use Rattle.waiting.specs.Waiting.{memoryLength, waitingBits, waitingNumber, behind, advanced}
 use Rattle.waiting.proofs.Waiting.{behind-waits, behind-length, advanced-waits, advanced-length}
 use Rattle.slicer.specs.Calls.{K, withFrame, withoutBlock, pushNumber, pushed, pushMemory, sliced, blockMemory, blockOutput}
-use Rattle.slicer.proofs.Checked.{PushPassed, push-passed, frame-fits}
-use Rattle.slicer.proofs.Exits.{push-last, block-fits}
-use Rattle.slicer.proofs.Answers.{Handed, hands-out, hands-none}
-use Rattle.claims.specs.Stream.{Call, Push, Block, Channel, begun, call, calls, InOrder, Streams, Waits, Open, StaysOpen, Slicing}
+use Rattle.slicer.specs.Change.{withFormat, changeNumber, changed}
+use Rattle.slicer.proofs.Checked.{PushPassed, push-passed, frame-fits, ChangePassed, change-passed}
+use Rattle.slicer.proofs.Exits.{push-last, block-fits, change-fits}
+use Rattle.slicer.proofs.Answers.{hands-out, hands-none}
+use Rattle.claims.specs.Stream.{Call, Push, Block, Change, Channel, begun, call, calls, InOrder, Streams, Waits, Open, StaysOpen, Slicing}
 
 -- the bits are in order, and all that wait are there
 record Kept (c : Channel) : Type 0 where
@@ -31,14 +32,14 @@ record Kept (c : Channel) : Type 0 where
   order : InOrder c
 
 -- the waiting bits pass their checks, in a format that there is
-record Sound (c : Channel) : Type 0 where
-  known : isFormat (c .slicer .format) ≡ true
-  few : c .slicer .waiting ≤ memoryLength
-  bits : allBits (waitingBits (c .slicer .waiting) (c .memory)) ≡ true
-  room : memoryLength ≤ length (c .memory)
+pub record Sound (c : Channel) : Type 0 where
+  pub known : isFormat (c .slicer .format) ≡ true
+  pub few : c .slicer .waiting ≤ memoryLength
+  pub bits : allBits (waitingBits (c .slicer .waiting) (c .memory)) ≡ true
+  pub room : memoryLength ≤ length (c .memory)
 
--- a channel that has taken a frame in, and one that has handed a block out
-abbrev taken : Channel → List ℕ → Channel
+-- a channel that has taken a frame in, one that has handed a block out, and one that goes on in another format
+abbrev pub taken : Channel → List ℕ → Channel
 taken c frame =
     record {
       slicer = withFrame (c .slicer) frame;
@@ -47,7 +48,7 @@ taken c frame =
       blocks = c .blocks;
     }
 
-abbrev given : Channel → Channel
+abbrev pub given : Channel → Channel
 given c =
     let k = K (c .slicer) in
     record {
@@ -57,26 +58,54 @@ given c =
       blocks = c .blocks ++ (take k (c .memory) ∷ []);
     }
 
+abbrev pub into : Channel → ℕ → Channel
+into c f = record { slicer = withFormat (c .slicer) f; memory = c .memory; frames = c .frames; blocks = c .blocks }
+
 -- push either takes the frame in or leaves the channel as it was
-push-either : (P : Channel → Type 0) (c : Channel) (frame : List ℕ) → P c → (PushPassed (c .slicer) (length frame) (c .memory) → P (taken c frame)) → P (call c (Push frame))
+pub push-taken : (c : Channel) (frame : List ℕ) → pushNumber (c .slicer) (length frame) (c .memory) ≡ passed → call c (Push frame) ≡ taken c frame
+unfolding pushed pushMemory
+push-taken c frame e = rw e
+
+push-either : (P : Channel → Type 0) (c : Channel) (frame : List ℕ) → P c → (PushPassed (c .slicer) (length frame) (c .memory) → P (taken c frame))
+    → P (call c (Push frame))
 unfolding pushed pushMemory
 push-either P c frame same more =
     by-cases (eqb (pushNumber (c .slicer) (length frame) (c .memory)) passed)
-    (λ t. rw t (more (push-passed _ _ _ (eqb-true _ _ t))))
-    (λ f. rw f same)
+    (λ t. let e = eqb-true _ _ t in
+    subst P (sym (push-taken c frame e)) (more (push-passed _ _ _ e)))
+    (λ n. rw n same)
 
 -- block either hands a block out or leaves the channel as it was
-block-either : (P : Channel → Type 0) (c : Channel) (out : List ℕ) → c .slicer .waiting ≤ length (c .memory) → P c
-    → (Handed (c .slicer) (c .memory) (length out) → P (given c)) → P (call c (Block out))
+pub block-given : (c : Channel) (out : List ℕ) → c .slicer .waiting ≤ length (c .memory) → sliced (c .slicer) (c .memory) (length out) .block ≡ true
+    → call c (Block out) ≡ given c
 unfolding blockMemory blockOutput
-block-either P c out there same more =
-    by-cases (sliced (c .slicer) (c .memory) (length out) .block)
-    (λ t. let h = hands-out (c .slicer) (c .memory) (length out) t in
+block-given c out there t =
+    let h = hands-out (c .slicer) (c .memory) (length out) t in
     let k = K (c .slicer) in
     let first : take k (take k (c .memory) ++ drop k out) ≡ take k (c .memory) =
     take-at (take k (c .memory)) (drop k out) k (length-take-le k (c .memory) (omega (arith, h .enough))) in
-    rw (t, h .after, first) (more h))
+    rw (t, h .after, first)
+
+block-either : (P : Channel → Type 0) (c : Channel) (out : List ℕ) → c .slicer .waiting ≤ length (c .memory) → P c
+    → (K (c .slicer) ≤ c .slicer .waiting → P (given c)) → P (call c (Block out))
+unfolding blockMemory
+block-either P c out there same more =
+    by-cases (sliced (c .slicer) (c .memory) (length out) .block)
+    (λ t. subst P (sym (block-given c out there t)) (more (hands-out (c .slicer) (c .memory) (length out) t .enough)))
     (λ f. rw (f, hands-none (c .slicer) (c .memory) (length out) f) same)
+
+-- change either goes on in the other format or leaves the channel as it was
+pub change-into : (c : Channel) (f : ℕ) → changeNumber (c .slicer) f ≡ passed → call c (Change f) ≡ into c f
+unfolding changed
+change-into c f e = rw e
+
+change-either : (P : Channel → Type 0) (c : Channel) (f : ℕ) → P c → (ChangePassed (c .slicer) f → P (into c f)) → P (call c (Change f))
+unfolding changed
+change-either P c f same more =
+    by-cases (eqb (changeNumber (c .slicer) f) passed)
+    (λ t. let e = eqb-true _ _ t in
+    subst P (sym (change-into c f e)) (more (change-passed _ _ e)))
+    (λ n. rw n same)
 
 -- a frame taken in, and a block handed out, keep the order
 taken-keeps : (c : Channel) (frame : List ℕ) → PushPassed (c .slicer) (length frame) (c .memory) → Kept c → Kept (taken c frame)
@@ -108,7 +137,7 @@ given-keeps c enough k =
     }
 
 -- and keep the waiting bits sound
-taken-sound : (c : Channel) (frame : List ℕ) → PushPassed (c .slicer) (length frame) (c .memory) → Sound c → Sound (taken c frame)
+pub taken-sound : (c : Channel) (frame : List ℕ) → PushPassed (c .slicer) (length frame) (c .memory) → Sound c → Sound (taken c frame)
 taken-sound c frame p h =
     let w = c .slicer .waiting in
     let bits = syncMarked frame in
@@ -136,7 +165,8 @@ given-sound c enough h =
 -- one call, and then any
 keeps : (c : Channel) (x : Call) → Kept c → Kept (call c x)
 keeps c (Push frame) k = push-either Kept c frame k (λ p. taken-keeps c frame p k)
-keeps c (Block out) k = block-either Kept c out (k .there) k (λ h. given-keeps c (h .enough) k)
+keeps c (Block out) k = block-either Kept c out (k .there) k (λ enough. given-keeps c enough k)
+keeps c (Change f) k = change-either Kept c f k (λ p. record { there = k .there; order = k .order })
 
 all-kept : (c : Channel) (xs : List Call) → Kept c → Kept (calls c xs)
 all-kept c [] k = k
@@ -144,9 +174,10 @@ all-kept c (x ∷ xs) k = all-kept (call c x) xs (keeps c x k)
 
 stays-sound : (c : Channel) (x : Call) → Sound c → Sound (call c x)
 stays-sound c (Push frame) h = push-either Sound c frame h (λ p. taken-sound c frame p h)
-stays-sound c (Block out) h = block-either Sound c out (omega (arith, h .few, h .room)) h (λ g. given-sound c (g .enough) h)
+stays-sound c (Block out) h = block-either Sound c out (omega (arith, h .few, h .room)) h (λ enough. given-sound c enough h)
+stays-sound c (Change f) h = change-either Sound c f h (λ p. record { known = p .known; few = h .few; bits = h .bits; room = h .room })
 
-all-sound : (c : Channel) (xs : List Call) → Sound c → Sound (calls c xs)
+pub all-sound : (c : Channel) (xs : List Call) → Sound c → Sound (calls c xs)
 all-sound c [] h = h
 all-sound c (x ∷ xs) h = all-sound (call c x) xs (stays-sound c x h)
 
@@ -157,23 +188,26 @@ waits : Waits
 unfolding sliced
 waits s memory room e = ((λ w. by-cases (ltb (s .waiting) (K s)) (λ few. ltb-true _ _ few) (λ enough. absurd (false≢true (rw (e, enough) at w)))), (λ few. rw (e, lt-ltb _ _ few)))
 
--- sound bits pass the checks of both calls
+-- sound bits pass the checks of every call
 sound-number : (c : Channel) → Sound c → waitingNumber (c .slicer .waiting) (c .memory) ≡ passed
 unfolding waitingNumber
 sound-number c h = simp (le-leb _ _ (h .few), h .bits, le-leb _ _ (h .room))
 
-opens : (c : Channel) → Sound c → Open c
+pub opens : (c : Channel) → Sound c → Open c
 opens c h =
     let s = c .slicer in
     let z = sound-number c h in
     record {
       takes = λ frame least most fits few. sym (push-last s (length frame) (c .memory) (h .known) least most fits few) ∙ z;
       gives = λ room fits. sym (block-fits s (c .memory) room (h .known) z fits);
+      changes = λ f known. sym (change-fits s f (h .known) known (h .few));
     }
 
+pub begun-sound : (f : ℕ) → isFormat f ≡ true → (memory : List ℕ) → memoryLength ≤ length memory → Sound (begun f memory)
+begun-sound f known memory room = record { known = known; few = omega arith; bits = refl; room = room }
+
 stays-open : StaysOpen
-stays-open f known memory room xs =
-    opens (calls (begun f memory) xs) (all-sound (begun f memory) xs (record { known = known; few = omega arith; bits = refl; room = room }))
+stays-open f known memory room xs = opens (calls (begun f memory) xs) (all-sound (begun f memory) xs (begun-sound f known memory room))
 
 pub slicing : Slicing
 slicing = record { streams = streams; waits = waits; stays-open = stays-open }

@@ -1,4 +1,5 @@
 pub mod Comparison
 pub mod Demand3
+pub mod Look
 pub mod Readings
 pub mod Stream

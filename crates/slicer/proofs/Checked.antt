@@ -10,7 +10,7 @@ use lib.ListN.{length}
 use Rattle.bits.specs.Checks.{_or-else_, passed}
 use Rattle.bits.specs.Legal.{allBits}
 use Rattle.bits.proofs.Passed.{passes}
-use Rattle.bits.proofs.Table.{right-true}
+use Rattle.bits.proofs.Table.{left-true, right-true}
 use Rattle.acm.specs.Formats.{isFormat}
 use Rattle.acm.proofs.Laws.{within}
 use Rattle.randomizer.specs.Randomizer.{octetLength}
@@ -18,6 +18,7 @@ use Rattle.transfer.specs.Transfer.{markerLength}
 use Rattle.waiting.specs.Waiting.{memoryLength, waitingBits}
 use Rattle.slicer.specs.declared.Slicer.{Slicer}
 use Rattle.slicer.specs.Calls.{leastFrame, mostFrame, K, pushChecks, pushNumber, blockChecks, blockNumber}
+use Rattle.slicer.specs.Change.{changeChecks, changeNumber}
 
 pub record PushPassed (s : Slicer) (octets : ℕ) (memory : List ℕ) : Type 0 where
   pub known : isFormat (s .format) ≡ true
@@ -66,4 +67,19 @@ block-passed s memory room e =
       bits = part 2 (lit< tt);
       memory-fits = leb-true _ _ (part 3 (lit< tt));
       out-fits = leb-true _ _ (part 4 (lit< tt));
+    }
+
+pub record ChangePassed (s : Slicer) (f : ℕ) : Type 0 where
+  pub own : isFormat (s .format) ≡ true
+  pub known : isFormat f ≡ true
+  pub count : s .waiting ≤ memoryLength
+
+pub change-passed : (s : Slicer) (f : ℕ) → changeNumber s f ≡ passed → ChangePassed s f
+unfolding changeNumber
+change-passed s f e =
+    let part = passes (changeChecks s f) (true or-else passed) refl e in
+    record {
+      own = left-true (isFormat (s .format)) (isFormat f) (part 0 (lit< tt));
+      known = right-true (isFormat (s .format)) (isFormat f) (part 0 (lit< tt));
+      count = leb-true _ _ (part 1 (lit< tt));
     }

@@ -5,12 +5,13 @@ use mathlib.Core.List.{List, [], _∷_}
 use Prim.Native.Nat.{ℕ, _≤_, _<_}
 use borrow.Author.Tests.{le-leb, lt-leb, lt-ltb, le-ltb}
 use lib.Dec.{leb}
-use Rattle.bits.specs.Checks.{Check, _or-else_, firstFailed, passed, badFormat, shortOutput, badFrameLength, otherFrameLength, blockWaits}
+use Rattle.bits.specs.Checks.{Check, _or-else_, firstFailed, passed, badFormat, badLength, shortOutput, badFrameLength, otherFrameLength, blockWaits}
 use Rattle.bits.proofs.Passed.{fails-first, fails-later}
 use Rattle.acm.specs.Formats.{isFormat}
-use Rattle.waiting.specs.Waiting.{waitingChecks, waitingNumber}
+use Rattle.waiting.specs.Waiting.{memoryLength, waitingChecks, waitingNumber}
 use Rattle.slicer.specs.declared.Slicer.{Slicer}
 use Rattle.slicer.specs.Calls.{leastFrame, mostFrame, K, fitsChannel, pushNumber, blockNumber}
+use Rattle.slicer.specs.Change.{changeNumber}
 
 module _ (s : Slicer) (octets : ℕ) (memory : List ℕ) where
   pub push-no-format : isFormat (s .format) ≡ false → badFormat ≡ pushNumber s octets memory
@@ -61,3 +62,22 @@ module _ (s : Slicer) (memory : List ℕ) (room : ℕ) where
 
       pub block-fits : K s ≤ room → passed ≡ blockNumber s memory room
       block-fits h = rw (le-leb _ _ h) at last-decides
+
+module _ (s : Slicer) (f : ℕ) where
+  pub change-from-none : isFormat (s .format) ≡ false → badFormat ≡ changeNumber s f
+  unfolding changeNumber
+  change-from-none h = simp h
+
+  module _ (own : isFormat (s .format) ≡ true) where
+    pub change-to-none : isFormat f ≡ false → badFormat ≡ changeNumber s f
+    unfolding changeNumber
+    change-to-none h = simp (own, h)
+
+    module _ (known : isFormat f ≡ true) where
+      pub change-many : memoryLength < s .waiting → badLength ≡ changeNumber s f
+      unfolding changeNumber
+      change-many h = simp (own, known, lt-leb _ _ h)
+
+      pub change-fits : s .waiting ≤ memoryLength → passed ≡ changeNumber s f
+      unfolding changeNumber
+      change-fits h = simp (own, known, le-leb _ _ h)

@@ -1,9 +1,11 @@
 // The slicer (000, 3.4): transfer frames in, information blocks out. Between the two the bits wait in memory that the caller lends.
+// Between blocks the format may change; a look tells beforehand what that would bring.
 ghost use mathlib.Core.Path.{_≡_};
 ghost use mathlib.Core.Bool.{true};
 ghost use lib.ListN.{length};
 ghost use Rattle.acm.specs.Formats.{isFormat};
 ghost use Rattle.slicer.specs.Calls.{fresh, K, fitsChannel, pushNumber, pushed, pushMemory, blockNumber, answerOf, sliced, blockMemory, blockOutput};
+ghost use Rattle.slicer.specs.Change.{changeNumber, changed, answerOf as lookAnswerOf, looked};
 use bits::checks;
 use randomizer::steps::OCTET_LENGTH;
 use transfer::steps::MARKER_LENGTH;
@@ -35,6 +37,14 @@ pub enum Sliced {
     // Fewer bits wait than a block has: the slicer as it came.
     Wait(Slicer),
     Refused(Answer),
+}
+
+// The answer of a look ahead.
+pub enum Ahead {
+    // Blocks that the waiting bits yield, and bits that stay.
+    Yields { blocks: usize, bits: usize },
+    // The number of the check that failed.
+    Refused(u8),
 }
 
 // A slicer that has taken no frame. It takes any format; the calls refuse one that there is not.
@@ -147,6 +157,57 @@ fn check_block(slicer: Slicer, k: usize, memory: &[u8], room: usize) -> u8
     }
     if room < k {
         return checks::OUTPUT;
+    }
+    checks::PASSED
+}
+
+// The format of the blocks that follow. The bits that wait are kept, in order, and so is the frame length.
+// Checks: 1, of the slicer's format and of the commanded one; 2, at most 600,000 bits wait.
+pub fn change(slicer: Slicer, format: u64) -> Answer
+    ensures { λ r. ⌜ r ≡ changed slicer format ⌝ }
+{
+    let number = check_change(slicer, format);
+    if number != checks::PASSED {
+        return Answer { number, slicer };
+    }
+    Answer {
+        number: checks::PASSED,
+        slicer: Slicer {
+            format,
+            octets: slicer.octets,
+            waiting: slicer.waiting,
+        },
+    }
+}
+
+// How many blocks the waiting bits would yield in a format, if it were commanded, and how many bits would stay.
+// Checks: those of change.
+pub fn look(slicer: Slicer, format: u64) -> Ahead
+    ensures { λ r. ⌜ lookAnswerOf r ≡ looked slicer format ⌝ }
+{
+    let number = check_change(slicer, format);
+    if number != checks::PASSED {
+        return Ahead::Refused(number);
+    }
+    let f = acm::steps::parameters(format);
+    Ahead::Yields {
+        blocks: slicer.waiting / f.k,
+        bits: slicer.waiting % f.k,
+    }
+}
+
+// The number of the first check of change, and of look, that fails, 0 if none does.
+fn check_change(slicer: Slicer, format: u64) -> u8
+    ensures { λ r. ⌜ r ≡ changeNumber slicer format ⌝ }
+{
+    let acm::Found::Record(_) = acm::lookup(slicer.format) else {
+        return checks::FORMAT;
+    };
+    let acm::Found::Record(_) = acm::lookup(format) else {
+        return checks::FORMAT;
+    };
+    if waiting::MEMORY < slicer.waiting {
+        return checks::LENGTH;
     }
     checks::PASSED
 }
