@@ -106,6 +106,11 @@ typedef struct {
     sccc_slicer slicer;
 } sccc_block_answer;
 
+/* blocks that the waiting bits would yield, and bits that would stay */
+typedef struct {
+    uint64_t number, blocks, bits;
+} sccc_look_answer;
+
 /*
  * sccc_format: an ACM format's parameters (tables 4-1, 4-3).
  *
@@ -268,6 +273,34 @@ sccc_slicer_answer sccc_slicer_push(sccc_slicer slicer, const uint8_t *frame, si
  */
 sccc_block_answer sccc_slicer_block(sccc_slicer slicer, uint8_t *waiting, size_t waiting_len,
                                     uint8_t *out, size_t out_len);
+
+/*
+ * sccc_slicer_change: another format, between blocks.
+ *
+ * Computes  the slicer in the commanded format. The bits that wait are kept, in order: the blocks
+ *           taken from now on have the new K, and check 11 of sccc_slicer_push goes by it. The
+ *           memory is not needed.
+ * Checks    1  the slicer's format and the commanded one are 1 to 27
+ *           2  at most 600,000 bits wait
+ * Success   number is 0, and the slicer has the commanded format; its frame_length and waiting are
+ *           as they came.
+ * Refusal   number is the check's, and the slicer as it came.
+ */
+sccc_slicer_answer sccc_slicer_change(sccc_slicer slicer, uint64_t format);
+
+/*
+ * sccc_slicer_look: what that change would bring.
+ *
+ * Computes  how many blocks the waiting bits would yield if the format were commanded, and how many
+ *           bits would stay: what sccc_slicer_change on a copy of the slicer, and then
+ *           sccc_slicer_block until wait is 1, would come to. Nothing is altered, and the memory is
+ *           not needed.
+ * Checks    1  the slicer's format and the one asked about are 1 to 27
+ *           2  at most 600,000 bits wait
+ * Success   number is 0, blocks the number of blocks, and bits the number of bits, fewer than K.
+ * Refusal   number is the check's, and blocks and bits are 0.
+ */
+sccc_look_answer sccc_slicer_look(sccc_slicer slicer, uint64_t format);
 
 #ifdef __cplusplus
 }

@@ -40,7 +40,7 @@ else:
 
 __all__ = [
     "FORMATS", "SYMBOLS", "SECTIONS", "FRAME_LABELS", "FRAME_SLOTS", "LEAST_TRANSFER_FRAME", "MOST_TRANSFER_FRAME",
-    "WAITING_MEMORY", "MEANINGS", "ScccError", "FormatInfo", "Step", "Comparison", "Slicer",
+    "WAITING_MEMORY", "MEANINGS", "ScccError", "FormatInfo", "Step", "Comparison", "Look", "Slicer",
     "load", "format_info", "step", "interleave", "encode", "labels", "frame", "section", "compare",
 ]
 
@@ -117,6 +117,13 @@ class Comparison(NamedTuple):
     same: bool
     count: int
     first: int
+
+
+class Look(NamedTuple):
+    """What a change of format would bring: blocks that the waiting bits would yield, and bits that would stay."""
+
+    blocks: int
+    bits: int
 
 
 def load(path: Union[str, "os.PathLike[str]", None] = None) -> None:
@@ -211,7 +218,7 @@ def compare(format: SupportsIndex, a: Buffer, b: Buffer) -> Comparison:
 
 
 class Slicer:
-    """A channel's slicer: takes transfer frames, and yields information blocks of a format.
+    """A channel's slicer: takes transfer frames, and yields information blocks of a format, which may change between blocks.
 
         slicer = sccc.Slicer(13)
         for frame in frames:
@@ -265,6 +272,25 @@ class Slicer:
         self._slicer = r.slicer
         return None if r.wait else result[:k]
 
+    def change(self, format: SupportsIndex) -> None:
+        """Commands a format: the blocks from now on have its K, and the bits that wait are kept for them, in order.
+
+        Checks: 1, of the slicer's format and of the commanded one.
+        """
+        r = _loaded().sccc_slicer_change(self._slicer, _number(format))
+        _pass(r.number)
+        self._slicer = r.slicer
+
+    def look(self, format: SupportsIndex) -> Look:
+        """What commanding a format would bring: how many blocks the waiting bits would yield, and how many bits would stay.
+        Nothing is altered.
+
+        Checks: 1, of the slicer's format and of the one asked about.
+        """
+        r = _loaded().sccc_slicer_look(self._slicer, _number(format))
+        _pass(r.number)
+        return Look(r.blocks, r.bits)
+
     def __iter__(self) -> Iterator[memoryview]:
         """Blocks, until one would have to wait."""
         return iter(self.block, None)
@@ -305,6 +331,10 @@ class _BlockAnswer(ctypes.Structure):
     _fields_ = [("number", ctypes.c_uint64), ("wait", ctypes.c_uint64), ("slicer", _Slicer)]
 
 
+class _LookAnswer(ctypes.Structure):
+    _fields_ = [(name, ctypes.c_uint64) for name in ("number", "blocks", "bits")]
+
+
 _NUMBER = [ctypes.c_uint64]
 _SLICE = [ctypes.c_void_p, ctypes.c_size_t]
 _PROTOTYPES = {
@@ -319,6 +349,8 @@ _PROTOTYPES = {
     "sccc_slicer_new": (_Slicer, _NUMBER),
     "sccc_slicer_push": (_SlicerAnswer, [_Slicer] + _SLICE + _SLICE),
     "sccc_slicer_block": (_BlockAnswer, [_Slicer] + _SLICE + _SLICE),
+    "sccc_slicer_change": (_SlicerAnswer, [_Slicer] + _NUMBER),
+    "sccc_slicer_look": (_LookAnswer, [_Slicer] + _NUMBER),
 }
 _BUILT = os.path.join(os.path.dirname(os.path.dirname(os.path.abspath(__file__))), "build", "libsccc.so")
 _library: Optional[ctypes.CDLL] = None

@@ -695,6 +695,93 @@ static void slicer_run(void)
     }
 }
 
+/* A change and a look: both read the slicer alone, and give as many blocks and bits as are due. */
+static void command_gives(int line, uint64_t number, sccc_slicer s, uint64_t f, uint64_t blocks,
+                          uint64_t bits)
+{
+    const sccc_slicer_answer changed = sccc_slicer_change(s, f);
+    const sccc_look_answer looked = sccc_slicer_look(s, f);
+    const sccc_slicer due = slicer(f, s.frame_length, s.waiting);
+    check(line, changed.number == number, "the number of sccc_slicer_change");
+    check(line, same_slicer(changed.slicer, number == SCCC_PASSED ? due : s),
+          "the slicer of sccc_slicer_change");
+    check(line, looked.number == number, "the number of sccc_slicer_look");
+    check(line, looked.blocks == blocks && looked.bits == bits, "the blocks and bits ahead");
+}
+
+#define COMMAND(s, f, blocks, bits) command_gives(__LINE__, SCCC_PASSED, s, f, blocks, bits)
+#define COMMAND_REFUSED(number, s, f) command_gives(__LINE__, number, s, f, 0, 0)
+
+static void slicer_change(void)
+{
+    static const uint64_t too_many[] = {600001, UINT64_C(4294967296), UINT64_C(1) << 40,
+                                        UINT64_MAX};
+    uint64_t f, g;
+    size_t j;
+    CHECK(sizeof(sccc_look_answer) == 3 * sizeof(uint64_t));
+    for (f = 1; f <= SCCC_FORMATS; f++) {
+        for (g = 1; g <= SCCC_FORMATS; g++) {
+            const uint64_t k = sccc_format(g).k;
+            COMMAND(slicer(f, 223, 0), g, 0, 0);
+            COMMAND(slicer(f, 0, k - 1), g, 0, k - 1);
+            COMMAND(slicer(f, 65536, k), g, 1, 0);
+            COMMAND(slicer(f, UINT64_MAX, 3 * k + 1), g, 3, 1);
+        }
+        for (j = 0; j < LENGTH(not_formats); j++) {
+            COMMAND_REFUSED(SCCC_BAD_FORMAT, slicer(not_formats[j], 223, 6000), f);
+            COMMAND_REFUSED(SCCC_BAD_FORMAT, slicer(f, 223, 6000), not_formats[j]);
+            COMMAND_REFUSED(SCCC_BAD_FORMAT, slicer(not_formats[j], 223, 600001), f);
+            COMMAND_REFUSED(SCCC_BAD_FORMAT, slicer(f, 223, UINT64_MAX), not_formats[j]);
+            COMMAND_REFUSED(SCCC_BAD_FORMAT, slicer(not_formats[j], 0, 0), not_formats[j]);
+        }
+        for (j = 0; j < LENGTH(too_many); j++)
+            COMMAND_REFUSED(SCCC_BAD_LENGTH, slicer(f, 223, too_many[j]), 1);
+    }
+    COMMAND(slicer(27, 223, 600000), 1, 104, 1168);
+    COMMAND(slicer(1, 223, 600000), 27, 13, 32186);
+}
+
+/* The same bits under one format after another: what a look says is what comes of the command, the
+ * frames go on from there by the new K, and the blocks, then the bits that wait, are the stream. */
+static void slicer_changes(void)
+{
+    enum { FRAMES = SCCC_FORMATS, OCTETS = 8000, BITS = 32 + 8 * OCTETS };
+    static uint8_t joined[FRAMES * BITS];
+    sccc_slicer s = sccc_slicer_new(27);
+    size_t length = 0;
+    unsigned n;
+    fill_waiting(0);
+    for (n = 0; n < FRAMES; n++) {
+        const uint64_t f = n % 2 == 0 ? 27 - n / 2 : 1 + n / 2;
+        const size_t k = sccc_format(f).k;
+        sccc_look_answer ahead;
+        sccc_block_answer taken;
+        sccc_slicer_answer pushed;
+        fill_transfer(n);
+        pushed = sccc_slicer_push(s, transfer, OCTETS, waiting, sizeof waiting);
+        CHECK(pushed.number == SCCC_PASSED);
+        ahead = sccc_slicer_look(pushed.slicer, f);
+        s = sccc_slicer_change(pushed.slicer, f).slicer;
+        CHECK(ahead.number == SCCC_PASSED && ahead.blocks > 0 && ahead.bits < k);
+        CHECK(sccc_slicer_push(s, transfer, OCTETS, waiting, sizeof waiting).number ==
+              SCCC_BLOCK_WAITS);
+        for (; ahead.blocks > 0 && length + k <= sizeof joined; ahead.blocks--) {
+            taken = sccc_slicer_block(s, waiting, sizeof waiting, joined + length, k);
+            CHECK(taken.number == SCCC_PASSED && !taken.wait);
+            length += k;
+            s = taken.slicer;
+        }
+        taken = sccc_slicer_block(s, waiting, sizeof waiting, block, k);
+        CHECK(taken.number == SCCC_PASSED && taken.wait && s.waiting == ahead.bits);
+    }
+    CHECK(length + s.waiting == sizeof joined);
+    memcpy(joined + length, waiting, sizeof joined - length);
+    for (n = 0; n < FRAMES; n++) {
+        fill_transfer(n);
+        CHECK(marked(joined + (size_t)n * BITS, OCTETS));
+    }
+}
+
 /* A thread's own buffers: it encodes one block of its format a few times over. */
 typedef struct {
     uint64_t f;
@@ -752,6 +839,8 @@ static void *call_each(void *argument)
     s = sccc_slicer_new(j->f);
     s = sccc_slicer_push(s, transfer, SCCC_MOST_TRANSFER_FRAME, waiting, sizeof waiting).slicer;
     sccc_slicer_block(s, waiting, sizeof waiting, j->block, r.k);
+    sccc_slicer_look(s, j->f);
+    sccc_slicer_change(s, j->f);
     return NULL;
 }
 
@@ -795,7 +884,9 @@ int main(void)
         {"sccc_slicer_new", slicer_new},
         {"sccc_slicer_push", slicer_push},
         {"sccc_slicer_block", slicer_block},
+        {"sccc_slicer_change and sccc_slicer_look", slicer_change},
         {"slicers' runs", slicer_run},
+        {"slicers' changes of format", slicer_changes},
         {"threads", threads},
         {"stack", stack},
     };

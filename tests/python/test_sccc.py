@@ -333,7 +333,40 @@ class Slicers(Case):
             self.assertUnchanged(1, slicer, slicer.block)
             self.assertUnchanged(1, slicer, slicer.block, out=bytearray(sccc.WAITING_MEMORY))
             self.assertUnchanged(1, slicer, list, slicer)
+            for call in (slicer.change, slicer.look):
+                self.assertUnchanged(1, slicer, call, 13)
+                self.assertUnchanged(1, slicer, call, f)
+            slicer = sccc.Slicer(13)
+            for call in (slicer.change, slicer.look):
+                self.assertUnchanged(1, slicer, call, f)
+                self.assertRaises(TypeError, call, 13.0)
         self.assertRaises(TypeError, sccc.Slicer, 13.0)
+
+    def test_change_keeps_what_waits(self):
+        slicer = sccc.Slicer(27)
+        frames, handed = [], []
+        for f in (*range(sccc.FORMATS, 0, -1), *range(1, sccc.FORMATS + 1)):
+            k = sccc.format_info(f).k
+            self.assertIsNone(slicer.change(f))
+            while slicer.waiting < 2 * k and slicer.look(f).blocks == 0:
+                frames.append(octets(f, 1115))
+                slicer.push(frames[-1])
+            ahead, before = slicer.look(f), self.state(slicer)
+            self.assertEqual((type(ahead), before[0]), (sccc.Look, f))
+            self.assertEqual(ahead, (slicer.waiting // k, slicer.waiting % k))
+            self.assertEqual(self.state(slicer), before)
+            self.assertUnchanged(11, slicer, slicer.push, self.frame)
+            taken = list(islice(slicer, 99))
+            self.assertEqual((len(taken), slicer.waiting, {len(block) for block in taken}), (*ahead, {k}))
+            handed += taken
+        self.assertEqual(b"".join([*handed, slicer._memory[: slicer.waiting]]), b"".join(map(marked, frames)))
+
+    def test_look_by_hand(self):
+        slicer = sccc.Slicer(27)
+        slicer.push(bytes(65536))
+        self.assertEqual(slicer.look(1), (91, 524320 - 91 * 5758))
+        self.assertEqual(slicer.look(27), (12, 184))
+        self.assertEqual((slicer.look(27).blocks, slicer.look(27).bits), (12, 184))
 
     def test_lengths_of_frames(self):
         for length in (sccc.LEAST_TRANSFER_FRAME, sccc.MOST_TRANSFER_FRAME):

@@ -12,6 +12,7 @@ use Rattle.interleaver.specs.Provenance.{Provenance}
 use Rattle.framing.specs.Calls.{sectionNumber}
 use Rattle.compare.specs.Comparison as compare
 use Rattle.slicer.specs.Calls as slicer
+use Rattle.slicer.specs.Change.{LookAnswer as Look}
 use Rattle.slicer.specs.declared.Slicer as below
 use Rattle.slicer.specs.declared.Answer.{Answer}
 use Rattle.sccc.specs.declared.FormatInfo.{FormatInfo}
@@ -22,6 +23,7 @@ use Rattle.sccc.specs.declared.Comparison.{Comparison}
 use Rattle.sccc.specs.declared.stream.Slicer.{Slicer}
 use Rattle.sccc.specs.declared.stream.SlicerAnswer.{SlicerAnswer}
 use Rattle.sccc.specs.declared.stream.BlockAnswer.{BlockAnswer}
+use Rattle.sccc.specs.declared.stream.LookAnswer.{LookAnswer}
 
 abbrev pub infoStruct : acm.Answer → Provenance → FormatInfo
 infoStruct a p =
@@ -59,3 +61,6 @@ answerStruct a = record { number = a .number; slicer = slicerStruct (a .slicer) 
 
 abbrev pub blockStruct : slicer.BlockAnswer → BlockAnswer
 blockStruct a = record { number = a .number; wait = if a .wait then 1 else 0; slicer = slicerStruct (a .slicer) }
+
+abbrev pub lookStruct : Look → LookAnswer
+lookStruct a = record { number = a .number; blocks = a .blocks; bits = a .bits }

@@ -1,9 +1,11 @@
-// Transfer frames in, blocks out: the slicer's calls.
+// Transfer frames in, blocks out, of one format after another: the slicer's calls.
 ghost use mathlib.Core.Path.{_≡_};
 ghost use lib.ListN.{length};
 ghost use Rattle.slicer.specs.Calls.{fresh, pushed, pushMemory, sliced, blockMemory, blockOutput};
-ghost use Rattle.sccc.specs.Structs.{slicerOf, slicerStruct, answerStruct, blockStruct};
+ghost use Rattle.slicer.specs.Change.{changed, looked};
+ghost use Rattle.sccc.specs.Structs.{slicerOf, slicerStruct, answerStruct, blockStruct, lookStruct};
 use crate::PASSED;
+use slicer::Ahead;
 use slicer::Sliced;
 
 // A channel's slicer: its format, the octets of each of its frames (0 before the first), and how many bits wait.
@@ -51,6 +53,14 @@ pub struct BlockAnswer {
     pub number: u64,
     pub wait: u64,
     pub slicer: Slicer,
+}
+
+// Blocks that the waiting bits would yield, and bits that would stay.
+#[repr(C)]
+pub struct LookAnswer {
+    pub number: u64,
+    pub blocks: u64,
+    pub bits: u64,
 }
 
 // A slicer that has taken no frame. It takes any format; the calls refuse one that there is not.
@@ -107,6 +117,40 @@ pub extern "C" fn sccc_slicer_block(
             number: refusal.number as u64,
             wait: 0,
             slicer: Slicer::of(refusal.slicer),
+        },
+    }
+}
+
+// The format of the blocks that follow. The bits that wait are kept, in order, and so is the frame length.
+// Checks: 1, of the slicer's format and of the commanded one; 2, at most 600,000 bits wait.
+#[no_mangle]
+pub extern "C" fn sccc_slicer_change(slicer: Slicer, format: u64) -> SlicerAnswer
+    ensures { λ r. ⌜ r ≡ answerStruct (changed (slicerOf slicer) format) ⌝ }
+{
+    let answer = slicer::change(Slicer::told(slicer), format);
+    SlicerAnswer {
+        number: answer.number as u64,
+        slicer: Slicer::of(answer.slicer),
+    }
+}
+
+// How many blocks the waiting bits would yield in a format, if it were commanded, and how many bits would stay.
+// Checks: those of sccc_slicer_change.
+#[no_mangle]
+pub extern "C" fn sccc_slicer_look(slicer: Slicer, format: u64) -> LookAnswer
+    ensures { λ r. ⌜ r ≡ lookStruct (looked (slicerOf slicer) format) ⌝ }
+{
+    let answer = slicer::look(Slicer::told(slicer), format);
+    match answer {
+        Ahead::Yields { blocks, bits } => LookAnswer {
+            number: PASSED,
+            blocks: blocks as u64,
+            bits: bits as u64,
+        },
+        Ahead::Refused(number) => LookAnswer {
+            number: number as u64,
+            blocks: 0,
+            bits: 0,
         },
     }
 }

@@ -64,7 +64,7 @@ pub struct Slicer {
     pub waiting: u64,
 }
 
-/// What `sccc_slicer_push` gives.
+/// What `sccc_slicer_push` and `sccc_slicer_change` give.
 #[repr(C)]
 #[derive(Clone, Copy, Debug, PartialEq, Eq)]
 pub struct SlicerAnswer {
@@ -79,6 +79,15 @@ pub struct BlockAnswer {
     pub number: u64,
     pub wait: u64,
     pub slicer: Slicer,
+}
+
+/// What `sccc_slicer_look` gives.
+#[repr(C)]
+#[derive(Clone, Copy, Debug, PartialEq, Eq)]
+pub struct LookAnswer {
+    pub number: u64,
+    pub blocks: u64,
+    pub bits: u64,
 }
 
 extern "C" {
@@ -131,6 +140,8 @@ extern "C" {
         out: *mut u8,
         out_len: usize,
     ) -> BlockAnswer;
+    fn sccc_slicer_change(slicer: Slicer, format: u64) -> SlicerAnswer;
+    fn sccc_slicer_look(slicer: Slicer, format: u64) -> LookAnswer;
 }
 
 fn pointer<T>(list: &[T]) -> *const T {
@@ -244,4 +255,14 @@ pub fn slicer_block(slicer: Slicer, waiting: &mut [u8], out: &mut [u8]) -> Block
             out.len(),
         )
     }
+}
+
+pub fn slicer_change(slicer: Slicer, format: u64) -> SlicerAnswer {
+    // SAFETY: it takes numbers alone.
+    unsafe { sccc_slicer_change(slicer, format) }
+}
+
+pub fn slicer_look(slicer: Slicer, format: u64) -> LookAnswer {
+    // SAFETY: it takes numbers alone.
+    unsafe { sccc_slicer_look(slicer, format) }
 }

@@ -142,7 +142,16 @@ pub fn block(slicer: &Slicer, memory: &[u8], out_len: usize) -> u64 {
     first_failed(&[count, bits, room, (OUTPUT, out_len >= f.K)])
 }
 
-/// What both ask of the bits that wait and of their memory.
+/// A change of a slicer's format, or a look at what it would bring.
+pub fn change(slicer: &Slicer, format: u64) -> u64 {
+    let formats = [slicer.format, format];
+    first_failed(&[
+        (FORMAT, formats.iter().all(|&f| tables::format(f).is_some())),
+        (LENGTH, slicer.waiting <= MEMORY as u64),
+    ])
+}
+
+/// What push and block ask of the bits that wait and of their memory.
 fn waiting(slicer: &Slicer, memory: &[u8]) -> [(u64, bool); 3] {
     [
         (LENGTH, slicer.waiting <= MEMORY as u64),
@@ -335,6 +344,22 @@ mod tests {
         assert_eq!(asked(1, 0, &twos, K - 1), OUTPUT);
         assert_eq!(asked(1, 0, &twos, K), PASSED);
         assert_eq!(asked(1, 600_000, &ones, K), PASSED);
+    }
+
+    #[test]
+    fn change_asks_1_of_both_formats_and_2() {
+        let asked = |old, waiting, new| change(&slicer(old, 1, waiting), new);
+        for format in [0, 28, 257, 1 << 32 | 1, u64::MAX] {
+            assert_eq!(asked(format, 0, 1), FORMAT);
+            assert_eq!(asked(1, 0, format), FORMAT);
+            assert_eq!(asked(format, u64::MAX, 1), FORMAT);
+            assert_eq!(asked(1, u64::MAX, format), FORMAT);
+        }
+        for waiting in [600_001, 1 << 40, u64::MAX] {
+            assert_eq!(asked(1, waiting, 27), LENGTH);
+        }
+        assert_eq!(asked(1, 600_000, 27), PASSED);
+        assert_eq!(asked(13, 0, 13), PASSED);
     }
 
     /// The bytes behind those that wait may be anything.

@@ -2,7 +2,7 @@
 //! long lists. These definitions are an agreement, not the standard's: both
 //! sides of a comparison follow them.
 
-use crate::tables::Format;
+use crate::tables::{self, Format};
 use crate::transfer;
 
 /// d starts at 1; each element x makes it (d * 1000003 + x + 1) modulo
@@ -66,15 +66,42 @@ pub fn frame_blocks(format: &Format) -> Vec<Vec<u8>> {
         .collect()
 }
 
-/// The first sixteen blocks of the test stream: transfer frames of 1,115
-/// octets, of the seeds 4000, 4001 and so on.
-pub fn stream_blocks(format: &Format) -> Vec<Vec<u8>> {
-    let frames = (4000..).map(|seed| seeded_frame(seed, 1115));
+/// The test stream: transfer frames of 1,115 octets, of the seeds 4000, 4001
+/// and so on.
+const FRAME: usize = 1115;
+
+/// Sixteen blocks of the test stream, from a bit on.
+fn blocks_from(start: usize, format: &Format) -> Vec<Vec<u8>> {
+    let frames = (4000..).map(|seed| seeded_frame(seed, FRAME));
     let bits: Vec<u8> = frames
         .flat_map(|frame| transfer::marked(&frame))
+        .skip(start)
         .take(16 * format.K)
         .collect();
     bits.chunks(format.K).map(<[u8]>::to_vec).collect()
+}
+
+/// The first sixteen blocks of the test stream.
+pub fn stream_blocks(format: &Format) -> Vec<Vec<u8>> {
+    blocks_from(0, format)
+}
+
+/// The bits of the sixteen blocks of format 13 that come before a change.
+fn before_change() -> usize {
+    16 * tables::format(13).expect("a format").K
+}
+
+/// The first sixteen blocks of a format after a change from format 13, which
+/// had sixteen before.
+pub fn changed_blocks(format: &Format) -> Vec<Vec<u8>> {
+    blocks_from(before_change(), format)
+}
+
+/// The bits that wait at that change, a frame being pushed only where a block
+/// lacks bits.
+pub fn waiting_at_change() -> u64 {
+    let bits = transfer::marked_bits(FRAME);
+    ((bits - before_change() % bits) % bits) as u64
 }
 
 #[cfg(test)]

@@ -4,8 +4,12 @@
 #![allow(non_snake_case)]
 
 use oracle::annex_c::{self, AnnexC};
-use oracle::digest::{digest, frame_blocks, pattern_block, stream_blocks, vector_blocks};
+use oracle::digest::{
+    changed_blocks, digest, frame_blocks, pattern_block, stream_blocks, vector_blocks,
+    waiting_at_change,
+};
 use oracle::encoder::{encode, labels};
+use oracle::slicer::{self, Slicer};
 use oracle::tables::{self, Format};
 use oracle::{annex_d, framing, puncturing_search, self_check, wrong_rows};
 use std::io::Write;
@@ -20,6 +24,8 @@ const USAGE: &str = "usage: oracle [--annex-c PATH] COMMAND
   vectors              digests of six encoded blocks for each format
   frames               digests of one frame for five formats
   streams              the same of a stream of transfer frames
+  changes              the same after a frame of format 13
+  looks                what a look says at that change
   ones FORMAT PATTERN  ones in the codeword of pattern 0, 1 or 2
   annex-d              the spread of each interleaver
   wrong-rows           how often annex D's rule misses a wrong row of annex C
@@ -59,6 +65,8 @@ fn command(arguments: &[String]) -> Result<(String, ExitCode), String> {
         ["vectors"] => vectors(&annex_c()?),
         ["frames"] => frames(&annex_c()?, frame_blocks)?,
         ["streams"] => frames(&annex_c()?, stream_blocks)?,
+        ["changes"] => frames(&annex_c()?, changed_blocks)?,
+        ["looks"] => looks(),
         ["ones", format, pattern] => ones(&annex_c()?, format, pattern)?,
         ["annex-d"] => annex_d::listing(&annex_c()?),
         ["wrong-rows"] => wrong_rows::listing(&annex_c()?),
@@ -104,6 +112,21 @@ fn frames(annex_c: &AnnexC, blocks: fn(&Format) -> Vec<Vec<u8>>) -> Result<Strin
         ));
     }
     Ok(text)
+}
+
+/// The blocks that the bits which wait at the change yield, and the bits that
+/// stay.
+fn looks() -> String {
+    let mut text = String::from("format,blocks,bits\n");
+    let slicer = Slicer {
+        waiting: waiting_at_change(),
+        ..Slicer::new(13)
+    };
+    for number in FRAME_FORMATS {
+        let ahead = slicer::look(slicer, number);
+        text.push_str(&format!("{number},{},{}\n", ahead.blocks, ahead.bits));
+    }
+    text
 }
 
 /// The number of ones in the codeword of a pattern's block.

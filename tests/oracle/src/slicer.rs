@@ -1,4 +1,5 @@
-//! 3.4: the slicer (request L1), transfer frames in and information blocks out.
+//! 3.4: the slicer (requests L1 and L4), transfer frames in and information
+//! blocks out.
 //!
 //! The bits that wait stand in lent memory, a bit a byte, from byte 0 on. A
 //! call is told what the memory holds, and tells what its front holds
@@ -113,6 +114,53 @@ pub fn block(slicer: Slicer, memory: &[u8], out_len: usize) -> Taken {
     }
 }
 
+/// What a change of format gives.
+#[derive(Debug, PartialEq, Eq)]
+pub struct Changed {
+    pub number: u64,
+    pub slicer: Slicer,
+}
+
+/// A change of format: the bits that wait are kept for blocks of the new one.
+pub fn change(slicer: Slicer, format: u64) -> Changed {
+    let number = checks::change(&slicer, format);
+    let slicer = match number {
+        PASSED => Slicer { format, ..slicer },
+        _ => slicer,
+    };
+    Changed { number, slicer }
+}
+
+/// What a look gives: the blocks that the waiting bits yield, and the bits that
+/// stay; nothing of either in a refusal.
+#[derive(Debug, PartialEq, Eq)]
+pub struct Ahead {
+    pub number: u64,
+    pub blocks: u64,
+    pub bits: u64,
+}
+
+/// A look: a copy is given the command, and K bits are taken off until it would
+/// have to wait.
+pub fn look(slicer: Slicer, format: u64) -> Ahead {
+    let changed = change(slicer, format);
+    let mut ahead = Ahead {
+        number: changed.number,
+        blocks: 0,
+        bits: 0,
+    };
+    if changed.number != PASSED {
+        return ahead;
+    }
+    let K = tables::format(format).expect("it has passed 1").K as u64;
+    ahead.bits = changed.slicer.waiting;
+    while ahead.bits >= K {
+        ahead.bits -= K;
+        ahead.blocks += 1;
+    }
+    ahead
+}
+
 #[cfg(test)]
 mod tests {
     use super::*;
@@ -165,5 +213,53 @@ mod tests {
         assert_eq!(taken.slicer, slicer(1));
         assert_eq!(taken.front, memory[K..=K]);
         assert_eq!(taken.block, memory[..K]);
+    }
+    /// 600,000 is 104 x 5758 + 1168, and 13 x 43678 + 32186.
+    #[test]
+    fn a_look_by_hand() {
+        let slicer = |waiting| Slicer {
+            waiting,
+            ..Slicer::new(13)
+        };
+        for (waiting, format, blocks, bits) in [
+            (600_000, 1, 104, 1168),
+            (600_000, 27, 13, 32_186),
+            (5757, 1, 0, 5757),
+            (5758, 1, 1, 0),
+            (19_198, 1, 3, 1924),
+            (0, 1, 0, 0),
+        ] {
+            let ahead = look(slicer(waiting), format);
+            assert_eq!((ahead.number, ahead.blocks), (PASSED, blocks));
+            assert_eq!(ahead.bits, bits);
+        }
+    }
+
+    /// As the request says it: a copy, the command, and blocks until "wait".
+    #[test]
+    fn a_look_is_the_command_and_the_blocks_that_follow() {
+        let memory = seeded_block(2, MEMORY);
+        let slicer = Slicer {
+            waiting: 100_000,
+            ..Slicer::new(13)
+        };
+        for f in tables::formats() {
+            let (mut copy, mut memory) = (change(slicer, f.number).slicer, memory.clone());
+            let mut handed = vec![];
+            let mut taken = block(copy, &memory, f.K);
+            while !taken.wait {
+                assert_eq!((taken.number, taken.block.len()), (PASSED, f.K));
+                handed.push(taken.block);
+                memory[..taken.front.len()].copy_from_slice(&taken.front);
+                copy = taken.slicer;
+                taken = block(copy, &memory, f.K);
+            }
+            let ahead = look(slicer, f.number);
+            assert_eq!(ahead.number, PASSED);
+            assert_eq!(ahead.blocks, handed.len() as u64);
+            assert_eq!(ahead.bits, copy.waiting);
+            let all = [handed.concat(), copy.bits(&memory).to_vec()].concat();
+            assert_eq!(all, seeded_block(2, 100_000));
+        }
     }
 }

@@ -29,7 +29,7 @@ pub struct Call {
     pub compare: fn(&mut Generator, &AnnexC) -> Compared,
 }
 
-pub const CALLS: [Call; 11] = [
+pub const CALLS: [Call; 13] = [
     Call {
         name: "format",
         outcomes: &[Passed, Refused(FORMAT)],
@@ -136,6 +136,18 @@ pub const CALLS: [Call; 11] = [
         ],
         weight: 4,
         compare: slicer::block_call,
+    },
+    Call {
+        name: "change",
+        outcomes: &[Passed, Refused(FORMAT), Refused(LENGTH)],
+        weight: 2,
+        compare: slicer::change_call,
+    },
+    Call {
+        name: "look",
+        outcomes: &[Passed, Refused(FORMAT), Refused(LENGTH)],
+        weight: 2,
+        compare: slicer::look_call,
     },
 ];
 

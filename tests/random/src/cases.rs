@@ -10,12 +10,12 @@ use oracle::tables::{self, Format};
 use std::time::{Duration, Instant};
 
 /// So many cases are compared however slow the machine is, so that every
-/// outcome is met. The least likely is a push's refusal with 3. Of 40 cases 4
+/// outcome is met. The least likely is a push's refusal with 3. Of 44 cases 4
 /// are pushes, of 8 pushes one is to fail this check first; of 5 slicers that
 /// are drawn for it one has no bits waiting, and of 8 memories one is empty:
-/// 4/40 x 1/8 x 4/5 x 7/8 = 7/800. So 4500 cases, the runs taken off, miss one
-/// of the outcomes, 53 in all, less than once in 10^16 runs of this program.
-const LEAST: u64 = 4500;
+/// 4/44 x 1/8 x 4/5 x 7/8 = 7/880. So 5000 cases, the runs taken off, miss one
+/// of the outcomes, 60 in all, less than once in 10^16 runs of this program.
+const LEAST: u64 = 5000;
 
 /// One case of so many is a run of a slicer, of the formats in turn, so that
 /// each format has one.

@@ -7,13 +7,13 @@ use crate::generator::Generator;
 use crate::lent::Lent;
 use crate::tally::Met;
 use crate::tally::Outcome::{self, Block, Passed, Refused, Wait};
-use interface::{BlockAnswer, SlicerAnswer};
+use interface::{BlockAnswer, LookAnswer, SlicerAnswer};
 use oracle::annex_c::AnnexC;
 use oracle::checks::{
     BLOCK_WAITS, CHANNEL_LENGTH, ELEMENT, FORMAT, FRAME_LENGTH, LENGTH, OUTPUT, PASSED, WORKSPACE,
 };
-use oracle::slicer::{self, Pushed, Slicer, Taken, MEMORY};
-use oracle::tables::Format;
+use oracle::slicer::{self, Ahead, Changed, Pushed, Slicer, Taken, MEMORY};
+use oracle::tables::{self, Format};
 use oracle::transfer::{self, LEAST_OCTETS, MOST_OCTETS};
 
 /// A slicer as the library takes it.
@@ -60,6 +60,31 @@ fn block(slicer: Slicer, memory: &mut Lent<u8>, out: &mut Lent<u8>) -> Compared<
     let [room, length] = [memory.list().len(), out.list().len()];
     let arguments = format!("block: {slicer:?}, memory of {room}, output of {length}");
     compared(arguments, expected, results)
+}
+
+/// A change of format on both sides, and what it gives.
+fn change(slicer: Slicer, format: u64) -> Compared<Changed> {
+    let expected = slicer::change(slicer, format);
+    let answer = SlicerAnswer {
+        number: expected.number,
+        slicer: lent(expected.slicer),
+    };
+    let found = interface::slicer_change(lent(slicer), format);
+    let arguments = format!("change: {slicer:?}, format {format}");
+    compared(arguments, expected, [equal(found, answer)])
+}
+
+/// A look on both sides, and what it gives.
+fn look(slicer: Slicer, format: u64) -> Compared<Ahead> {
+    let expected = slicer::look(slicer, format);
+    let answer = LookAnswer {
+        number: expected.number,
+        blocks: expected.blocks,
+        bits: expected.bits,
+    };
+    let found = interface::slicer_look(lent(slicer), format);
+    let arguments = format!("look: {slicer:?}, format {format}");
+    compared(arguments, expected, [equal(found, answer)])
 }
 
 fn met_block(taken: &Taken, f: &Format) -> Met {
@@ -135,6 +160,34 @@ pub fn block_call(generator: &mut Generator, _: &AnnexC) -> Compared {
     let mut out = Lent::filled(generator, length);
     let taken = block(slicer, &mut memory, &mut out)?;
     Ok(met_block(&taken, &f))
+}
+
+pub fn change_call(generator: &mut Generator, _: &AnnexC) -> Compared {
+    let (slicer, format, f) = command(generator);
+    let changed = change(slicer, format)?;
+    Ok(met(changed.number, &f))
+}
+
+pub fn look_call(generator: &mut Generator, _: &AnnexC) -> Compared {
+    let (slicer, format, f) = command(generator);
+    let ahead = look(slicer, format)?;
+    Ok(met(ahead.number, &f))
+}
+
+/// A slicer and a commanded format, whose record goes with it if it is one.
+fn command(generator: &mut Generator) -> (Slicer, u64, Format) {
+    let plan = Plan::new(generator, &[FORMAT, LENGTH]);
+    let [old, new] = [draw::format(generator), draw::format(generator)];
+    let fails = plan.fails(generator, FORMAT);
+    let [old_fails, new_fails] = draw::either(generator, fails);
+    let fails = plan.fails(generator, LENGTH);
+    let slicer = Slicer {
+        format: draw::format_number(generator, &old, old_fails),
+        frame_length: generator.number(),
+        waiting: count(generator, &new, fails),
+    };
+    let format = draw::format_number(generator, &new, new_fails);
+    (slicer, format, new)
 }
 
 /// Octets of a frame, within the range or not. Long frames take long, and are
@@ -216,6 +269,7 @@ pub const OUTCOMES: &[Outcome] = &[
     Passed,
     Block,
     Wait,
+    Refused(FORMAT),
     Refused(OUTPUT),
     Refused(FRAME_LENGTH),
     Refused(CHANNEL_LENGTH),
@@ -232,8 +286,9 @@ struct Run {
     handed: Vec<u8>,
 }
 
-/// A run of a format: pushes and blocks in any order, good ones and bad. In the
-/// end the blocks, then the bits that wait, are to be the frames' stream.
+/// A run that begins with a format: pushes, blocks, changes of format and looks
+/// in any order, good ones and bad. In the end the blocks, then the bits that
+/// wait, are to be the frames' stream.
 pub fn run(generator: &mut Generator, f: &Format) -> Compared<Vec<Met>> {
     let slicer = Slicer::new(f.number);
     equal(interface::slicer_new(f.number), lent(slicer))?;
@@ -256,13 +311,17 @@ pub fn run(generator: &mut Generator, f: &Format) -> Compared<Vec<Met>> {
 }
 
 impl Run {
-    /// The call that is due as a rule, now and then the other.
+    /// The push or block that is due as a rule, now and then the other, a
+    /// change or a look.
     fn call(&mut self, generator: &mut Generator, octets: usize) -> Compared {
         let due = self.slicer.waiting >= self.f.K as u64;
-        let met = if due != (generator.below(4) == 0) {
-            self.block(generator)?
-        } else {
-            self.push(generator, octets)?
+        let met = match generator.below(8) {
+            0 => self.change(generator)?,
+            1 => self.look(generator)?,
+            2 | 3 if due => self.push(generator, octets)?,
+            2 | 3 => self.block(generator)?,
+            _ if due => self.block(generator)?,
+            _ => self.push(generator, octets)?,
         };
         self.memory.settle();
         Ok(met)
@@ -293,5 +352,44 @@ impl Run {
         self.handed.extend(&taken.block);
         self.slicer = taken.slicer;
         Ok(met_block(&taken, &self.f))
+    }
+    /// Any format, now and then none.
+    fn command(&self, generator: &mut Generator) -> u64 {
+        let fails = generator.below(4) == 0;
+        let f = draw::format(generator);
+        draw::format_number(generator, &f, fails)
+    }
+
+    fn change(&mut self, generator: &mut Generator) -> Compared {
+        let format = self.command(generator);
+        let changed = change(self.slicer, format)?;
+        self.slicer = changed.slicer;
+        self.f = tables::format(self.slicer.format).expect("none is left for no format");
+        Ok(met(changed.number, &self.f))
+    }
+
+    /// A look, and what the library itself does with a copy of the slicer and
+    /// its memory.
+    fn look(&mut self, generator: &mut Generator) -> Compared {
+        let format = self.command(generator);
+        let ahead = look(self.slicer, format)?;
+        if ahead.number == PASSED {
+            self.follow(&ahead, format)?;
+        }
+        Ok(met(ahead.number, &self.f))
+    }
+
+    /// The command, the blocks that a look says, and "wait".
+    fn follow(&self, ahead: &Ahead, format: u64) -> Compared<()> {
+        let mut slicer = interface::slicer_change(lent(self.slicer), format).slicer;
+        let mut memory = self.memory.list().to_vec();
+        let mut out = vec![0; tables::format(format).expect("it has passed 1").K];
+        for due in 0..=ahead.blocks {
+            let answer = interface::slicer_block(slicer, &mut memory, &mut out);
+            let wait = u64::from(due == ahead.blocks);
+            equal((answer.number, answer.wait), (PASSED, wait))?;
+            slicer = answer.slicer;
+        }
+        equal(slicer.waiting, ahead.bits)
     }
 }
