@@ -227,7 +227,8 @@ sccc_comparison sccc_compare(uint64_t format, const uint8_t *a, size_t a_len, co
  *
  * A slicer goes from call to call by value, and with it the memory in which its bits wait, a bit a
  * byte, from byte 0 on: each call is given slicer and memory as the last one left them. Then the
- * blocks taken, and behind them the bits that wait, are the stream of the frames pushed.
+ * blocks taken, and behind them the bits that wait, are the stream of the frames pushed, whatever
+ * formats were commanded between.
  *
  * Computes  a slicer before the first frame.
  * Checks    none: a format that is none is refused by the calls that are given the slicer.

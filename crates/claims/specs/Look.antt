@@ -35,11 +35,11 @@ module _ (c : Channel) (f : ℕ) (out : ℕ → List ℕ) where
   abbrev pub after : ℕ → Channel
   after n = calls c (commanded f out n)
 
-  -- what the next call for a block answers
+  -- what the call for a block that comes next answers
   abbrev pub next : ℕ → BlockAnswer
   next n = answered (after n) (out n)
 
-  -- n blocks are handed out, none of the calls having said "wait"
+  -- each of the first n calls for a block hands one out
   abbrev pub Blocks : ℕ → Type 0
   Blocks n = (k : ℕ) → k < n → next k .block ≡ true
 
@@ -48,7 +48,7 @@ module _ (c : Channel) (f : ℕ) (out : ℕ → List ℕ) where
     pub change : changeNumber (c .slicer) f ≡ passed
     pub blocks : (n : ℕ) → Blocks n → next n .number ≡ passed
 
-  -- so many blocks are handed out, the next call says "wait", and so many bits wait
+  -- so many calls hand a block out, the next one says "wait", and so many bits wait
   pub record Ends (a : LookAnswer) : Type 0 where
     pub number : a .number ≡ passed
     pub blocks : Blocks (a .blocks)

@@ -310,6 +310,13 @@ pub fn run(generator: &mut Generator, f: &Format) -> Compared<Vec<Met>> {
     Ok(met)
 }
 
+/// The number of any format, now and then of none.
+fn commanded(generator: &mut Generator) -> u64 {
+    let fails = generator.below(4) == 0;
+    let f = draw::format(generator);
+    draw::format_number(generator, &f, fails)
+}
+
 impl Run {
     /// The push or block that is due as a rule, now and then the other, a
     /// change or a look.
@@ -318,9 +325,7 @@ impl Run {
         let met = match generator.below(8) {
             0 => self.change(generator)?,
             1 => self.look(generator)?,
-            2 | 3 if due => self.push(generator, octets)?,
-            2 | 3 => self.block(generator)?,
-            _ if due => self.block(generator)?,
+            turn if due == (turn > 3) => self.block(generator)?,
             _ => self.push(generator, octets)?,
         };
         self.memory.settle();
@@ -353,25 +358,18 @@ impl Run {
         self.slicer = taken.slicer;
         Ok(met_block(&taken, &self.f))
     }
-    /// Any format, now and then none.
-    fn command(&self, generator: &mut Generator) -> u64 {
-        let fails = generator.below(4) == 0;
-        let f = draw::format(generator);
-        draw::format_number(generator, &f, fails)
-    }
-
     fn change(&mut self, generator: &mut Generator) -> Compared {
-        let format = self.command(generator);
+        let format = commanded(generator);
         let changed = change(self.slicer, format)?;
         self.slicer = changed.slicer;
-        self.f = tables::format(self.slicer.format).expect("none is left for no format");
+        self.f = tables::format(self.slicer.format).expect("a change to none is refused");
         Ok(met(changed.number, &self.f))
     }
 
     /// A look, and what the library itself does with a copy of the slicer and
     /// its memory.
     fn look(&mut self, generator: &mut Generator) -> Compared {
-        let format = self.command(generator);
+        let format = commanded(generator);
         let ahead = look(self.slicer, format)?;
         if ahead.number == PASSED {
             self.follow(&ahead, format)?;
