@@ -455,6 +455,9 @@ static sccc_slicer slicer(uint64_t f, uint64_t frame_length, uint64_t count)
     return s;
 }
 
+/* More bits than may wait. */
+static const uint64_t too_many[] = {600001, UINT64_C(4294967296), UINT64_C(1) << 40, UINT64_MAX};
+
 static int same_slicer(sccc_slicer a, sccc_slicer b)
 {
     return a.format == b.format && a.frame_length == b.frame_length && a.waiting == b.waiting;
@@ -618,8 +621,6 @@ static void block_gives(int line, uint64_t number, uint64_t wait, uint64_t taken
 
 static void slicer_block(void)
 {
-    static const uint64_t too_many[] = {600001, UINT64_C(4294967296), UINT64_C(1) << 40,
-                                        UINT64_MAX};
     const size_t room = SCCC_WAITING_MEMORY;
     uint64_t f;
     size_t j;
@@ -714,8 +715,6 @@ static void command_gives(int line, uint64_t number, sccc_slicer s, uint64_t f, 
 
 static void slicer_change(void)
 {
-    static const uint64_t too_many[] = {600001, UINT64_C(4294967296), UINT64_C(1) << 40,
-                                        UINT64_MAX};
     uint64_t f, g;
     size_t j;
     CHECK(sizeof(sccc_look_answer) == 3 * sizeof(uint64_t));
@@ -737,7 +736,7 @@ static void slicer_change(void)
         for (j = 0; j < LENGTH(too_many); j++)
             COMMAND_REFUSED(SCCC_BAD_LENGTH, slicer(f, 223, too_many[j]), 1);
     }
-    COMMAND(slicer(27, 223, 600000), 1, 104, 1168);
+    COMMAND(slicer(13, 223, 600000), 1, 104, 1168);
     COMMAND(slicer(1, 223, 600000), 27, 13, 32186);
 }
 
@@ -747,12 +746,12 @@ static void slicer_changes(void)
 {
     enum { FRAMES = SCCC_FORMATS, OCTETS = 8000, BITS = 32 + 8 * OCTETS };
     static uint8_t joined[FRAMES * BITS];
-    sccc_slicer s = sccc_slicer_new(27);
+    sccc_slicer s = sccc_slicer_new(1);
     size_t length = 0;
     unsigned n;
     fill_waiting(0);
     for (n = 0; n < FRAMES; n++) {
-        const uint64_t f = n % 2 == 0 ? 27 - n / 2 : 1 + n / 2;
+        const uint64_t f = n % 2 == 0 ? SCCC_FORMATS - n / 2 : 1 + n / 2;
         const size_t k = sccc_format(f).k;
         sccc_look_answer ahead;
         sccc_block_answer taken;

@@ -348,7 +348,7 @@ class Slicers(Case):
         for f in (*range(sccc.FORMATS, 0, -1), *range(1, sccc.FORMATS + 1)):
             k = sccc.format_info(f).k
             self.assertIsNone(slicer.change(f))
-            while slicer.waiting < 2 * k and slicer.look(f).blocks == 0:
+            while slicer.look(f).blocks == 0:
                 frames.append(octets(f, 1115))
                 slicer.push(frames[-1])
             ahead, before = slicer.look(f), self.state(slicer)

@@ -33,10 +33,10 @@ record Kept (c : Channel) : Type 0 where
 
 -- the waiting bits pass their checks, in a format that there is
 pub record Sound (c : Channel) : Type 0 where
-  pub known : isFormat (c .slicer .format) ≡ true
-  pub few : c .slicer .waiting ≤ memoryLength
-  pub bits : allBits (waitingBits (c .slicer .waiting) (c .memory)) ≡ true
-  pub room : memoryLength ≤ length (c .memory)
+  known : isFormat (c .slicer .format) ≡ true
+  few : c .slicer .waiting ≤ memoryLength
+  bits : allBits (waitingBits (c .slicer .waiting) (c .memory)) ≡ true
+  room : memoryLength ≤ length (c .memory)
 
 -- a channel that has taken a frame in, one that has handed a block out, and one that goes on in another format
 abbrev pub taken : Channel → List ℕ → Channel
@@ -48,7 +48,7 @@ taken c frame =
       blocks = c .blocks;
     }
 
-abbrev pub given : Channel → Channel
+abbrev given : Channel → Channel
 given c =
     let k = K (c .slicer) in
     record {

@@ -311,7 +311,7 @@ pub fn run(generator: &mut Generator, f: &Format) -> Compared<Vec<Met>> {
 }
 
 /// The number of any format, now and then of none.
-fn commanded(generator: &mut Generator) -> u64 {
+fn format_or_none(generator: &mut Generator) -> u64 {
     let fails = generator.below(4) == 0;
     let f = draw::format(generator);
     draw::format_number(generator, &f, fails)
@@ -359,7 +359,7 @@ impl Run {
         Ok(met_block(&taken, &self.f))
     }
     fn change(&mut self, generator: &mut Generator) -> Compared {
-        let format = commanded(generator);
+        let format = format_or_none(generator);
         let changed = change(self.slicer, format)?;
         self.slicer = changed.slicer;
         self.f = tables::format(self.slicer.format).expect("a change to none is refused");
@@ -369,7 +369,7 @@ impl Run {
     /// A look, and what the library itself does with a copy of the slicer and
     /// its memory.
     fn look(&mut self, generator: &mut Generator) -> Compared {
-        let format = commanded(generator);
+        let format = format_or_none(generator);
         let ahead = look(self.slicer, format)?;
         if ahead.number == PASSED {
             self.follow(&ahead, format)?;
