@@ -20,11 +20,12 @@ and-true : (b : Bool) → (b && true) ≡ b
 and-true true = refl
 and-true false = refl
 
--- a list from a place on, whose next stretch is legal or not
-legal-both : (top : ℕ) (a b : List ℕ) → allAtMost top (a ++ b) ≡ (allAtMost top a && allAtMost top b)
+-- two lists joined
+pub legal-both : (top : ℕ) (a b : List ℕ) → allAtMost top (a ++ b) ≡ (allAtMost top a && allAtMost top b)
 legal-both top [] b = refl
 legal-both top (x ∷ a) b = by-cases (leb x top) (λ e. rw e (legal-both top a b)) (λ e. rw e)
 
+-- a list from a place on, whose next stretch is legal or not
 module _ (top : ℕ) (l : List ℕ) (from to : ℕ) (h : from ≤ to) where
   abbrev stretch : List ℕ
   stretch = take (to - from) (drop from l)
@@ -76,6 +77,10 @@ pub legal-at : (top : ℕ) (l : List ℕ) → allAtMost top l ≡ true → (k : 
 legal-at top [] e k = zero-le
 legal-at top (x ∷ l) e zero = legal-head top x l e
 legal-at top (x ∷ l) e (suc k) = legal-at top l (legal-tail top x l e) k
+
+pub legal-front : (top : ℕ) (a b : List ℕ) → allAtMost top (a ++ b) ≡ true → allAtMost top a ≡ true
+legal-front top [] b e = refl
+legal-front top (x ∷ a) b e = rw (le-leb x top (legal-head top x (a ++ b) e)) (legal-front top a b (legal-tail top x (a ++ b) e))
 
 pub legal-rest : (top : ℕ) (a b : List ℕ) → allAtMost top (a ++ b) ≡ true → allAtMost top b ≡ true
 legal-rest top [] b e = e

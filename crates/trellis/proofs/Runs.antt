@@ -1,14 +1,14 @@
--- Runs over joined lists, their lengths, and where a terminated run ends.
+-- Runs: over joined lists, their bits, where they end, and where a terminated one does.
 use mathlib.Core.Path.{_≡_, refl, ap, _∙_}
 use mathlib.Core.Bool.{true}
 use mathlib.Core.List.{List, [], _∷_, _++_}
-use Prim.Native.Nat.{ℕ, suc, _+_, _*_}
+use Prim.Native.Nat.{ℕ, zero, suc, _+_, _*_, _/_, _%_, _≤_, _<_}
 use native.Mathlib.Omega.{arith}
 use borrow.Author.Tests.{le-leb}
-use lib.ListN.{length, length-append}
+use lib.ListN.{length, getD, length-append}
 use Rattle.bits.specs.Legal.{allBits}
 use Rattle.bits.proofs.Legal.{legal-append}
-use Rattle.trellis.specs.Trellis.{State, zero-state, parity, next, run, parities, ends, terminating, termination, terminatedFrom, terminated}
+use Rattle.trellis.specs.Trellis.{State, zero-state, stateNumber, stateOf, parity, next, run, parities, ends, terminating, termination, terminatedFrom, terminated}
 
 -- a run over two lists joined is the run over the first, and then over the second from where that ended
 pub ends-append : (x : State) (a b : List ℕ) → ends x (a ++ b) ≡ ends (ends x a) b
@@ -26,6 +26,16 @@ parities-append x (u ∷ a) b = rw (parities-append (next x u) a b)
 pub run-length : (x : State) (bits : List ℕ) → length (run x bits) ≡ 2 * length bits
 run-length x [] = refl
 run-length x (u ∷ us) = omega (arith, run-length (next x u) us)
+
+-- every second bit of a run is a bit that was given, and those between are the parities
+pub run-alternates : (x : State) (bits : List ℕ) (i : ℕ) → i < length bits
+    → (getD (run x bits) (2 * i) 0 ≡ getD bits i 0) × (getD (run x bits) (2 * i + 1) 0 ≡ getD (parities x bits) i 0)
+run-alternates x [] i h = absurd (omega arith)
+run-alternates x (u ∷ us) zero h = (refl, refl)
+run-alternates x (u ∷ us) (suc i) h =
+    let past : 2 * suc i ≡ suc (suc (2 * i)) = omega arith in
+    let odd : 2 * suc i + 1 ≡ suc (suc (2 * i + 1)) = omega arith in
+    rw (odd, past) (run-alternates (next x u) us i (omega arith))
 
 pub parities-length : (x : State) (bits : List ℕ) → length (parities x bits) ≡ length bits
 parities-length x [] = refl
@@ -46,6 +56,27 @@ termination-bits x =
 
 pub terminated-bits : (x : State) (bits : List ℕ) → allBits bits ≡ true → allBits (terminatedFrom x bits) ≡ true
 terminated-bits x bits h = legal-append 1 bits (termination (ends x bits)) h (termination-bits (ends x bits))
+
+-- a state of two bits stays one, and its number is its own
+ends-bits : (x : State) (bits : List ℕ) → x .0 ≤ 1 → x .1 ≤ 1 → (ends x bits .0 ≤ 1) × (ends x bits .1 ≤ 1)
+ends-bits x [] h k = (h, k)
+ends-bits x (u ∷ us) h k = ends-bits (next x u) us k (omega arith)
+
+module _ (s : ℕ) (bits : List ℕ) (h : s ≤ 3) where
+  abbrev end : State
+  end = ends (stateOf s) bits
+
+  two-bits : (end .0 ≤ 1) × (end .1 ≤ 1)
+  two-bits = ends-bits (stateOf s) bits (omega arith) (omega arith)
+
+  pub end-state : stateNumber end ≤ 3
+  end-state = omega (arith, two-bits .0, two-bits .1)
+
+  pub end-back : stateOf (stateNumber end) ≡ end
+  end-back =
+      let first : (2 * end .0 + end .1) / 2 ≡ end .0 = omega (arith, two-bits .1) in
+      let second : (2 * end .0 + end .1) % 2 ≡ end .1 = omega (arith, two-bits .1) in
+      rw (first, second)
 
 -- the two terminating steps end in the state 00, from any state
 pub terminates : (x : State) → ends x (termination x) ≡ zero-state
