@@ -2,4 +2,5 @@ pub mod Comparison
 pub mod Demand3
 pub mod Look
 pub mod Readings
+pub mod Run
 pub mod Stream
