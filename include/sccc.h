@@ -76,6 +76,11 @@ typedef struct {
     uint64_t number, systematic, parity, state;
 } sccc_stepped;
 
+/* state: the state that the run ends in */
+typedef struct {
+    uint64_t number, state;
+} sccc_run_answer;
+
 typedef struct {
     uint64_t number, position;
 } sccc_interleaved;
@@ -131,6 +136,23 @@ sccc_format_info sccc_format(uint64_t format);
  * Refusal   number is the check's, and every other field is 0.
  */
 sccc_stepped sccc_step(uint64_t state, uint64_t bit);
+
+/*
+ * sccc_run: a run of the trellis over a list of bits, from any state.
+ *
+ * Computes  the steps on each bit in turn: what each gives, and the state after the last. The run is
+ *           not terminated, so another may go on from where it ends: what the two write, one behind
+ *           the other, and the state of the second are those of one run over both lists. A list of
+ *           no bits is a run too, and gives the state back.
+ * Checks    3  the state is 0 to 3, and each element of bits 0 or 1
+ *           5  out_len is at least 2 * bits_len
+ * Success   number is 0, and state is the state that the run ends in. The first 2 * bits_len bytes
+ *           of out are the first bit, its parity, the second bit, its parity and so on, and the
+ *           bytes after those as they were.
+ * Refusal   number is the check's, and state is 0. out is as it was.
+ */
+sccc_run_answer sccc_run(uint64_t state, const uint8_t *bits, size_t bits_len, uint8_t *out,
+                         size_t out_len);
 
 /*
  * sccc_interleave: the interleaver (4.3, annex C).

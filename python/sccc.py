@@ -40,8 +40,8 @@ else:
 
 __all__ = [
     "FORMATS", "SYMBOLS", "SECTIONS", "FRAME_LABELS", "FRAME_SLOTS", "LEAST_TRANSFER_FRAME", "MOST_TRANSFER_FRAME",
-    "WAITING_MEMORY", "MEANINGS", "ScccError", "FormatInfo", "Step", "Comparison", "Look", "Slicer",
-    "load", "format_info", "step", "interleave", "encode", "labels", "frame", "section", "compare",
+    "WAITING_MEMORY", "MEANINGS", "ScccError", "FormatInfo", "Step", "Run", "Comparison", "Look", "Slicer",
+    "load", "format_info", "step", "run", "interleave", "encode", "labels", "frame", "section", "compare",
 ]
 
 #: The formats are 1 to 27.
@@ -111,6 +111,13 @@ class Step(NamedTuple):
     state: int
 
 
+class Run(NamedTuple):
+    """A trellis run: each bit and its parity in turn, and the state that it ends in."""
+
+    out: memoryview
+    state: int
+
+
 class Comparison(NamedTuple):
     """Whether two label lists are the same; if not, in how many bits they differ, and at which place first. Else both are 0."""
 
@@ -150,6 +157,18 @@ def step(state: SupportsIndex, bit: SupportsIndex) -> Step:
     r = _loaded().sccc_step(_number(state), _number(bit))
     _pass(r.number)
     return Step(r.systematic, r.parity, r.state)
+
+
+def run(state: SupportsIndex, bits: Buffer, *, out: Optional[Buffer] = None) -> Run:
+    """A trellis run from the state 2 * x0 + x1 over bits, not terminated. What it writes are the first two bytes of out for each bit.
+
+    Checks: 3, the state is 0 to 3 and each bit 0 or 1; 5, out has at least two bytes for each bit.
+    """
+    given = _view("bits", bits)
+    result = _view("out", bytearray(2 * len(given)) if out is None else out, writable=True)
+    r = _loaded().sccc_run(_number(state), *_lent(given, result, written=1))
+    _pass(r.number)
+    return Run(result[: 2 * len(given)], r.state)
 
 
 def interleave(format: SupportsIndex, position: SupportsIndex) -> int:
@@ -307,6 +326,10 @@ class _Stepped(ctypes.Structure):
     _fields_ = [(name, ctypes.c_uint64) for name in ("number", "systematic", "parity", "state")]
 
 
+class _RunAnswer(ctypes.Structure):
+    _fields_ = [(name, ctypes.c_uint64) for name in ("number", "state")]
+
+
 class _Interleaved(ctypes.Structure):
     _fields_ = [(name, ctypes.c_uint64) for name in ("number", "position")]
 
@@ -340,6 +363,7 @@ _SLICE = [ctypes.c_void_p, ctypes.c_size_t]
 _PROTOTYPES = {
     "sccc_format": (_FormatInfo, _NUMBER),
     "sccc_step": (_Stepped, _NUMBER + _NUMBER),
+    "sccc_run": (_RunAnswer, _NUMBER + _SLICE + _SLICE),
     "sccc_interleave": (_Interleaved, _NUMBER + _NUMBER),
     "sccc_encode": (ctypes.c_uint8, _NUMBER + _SLICE + _SLICE + _SLICE),
     "sccc_labels": (ctypes.c_uint8, _NUMBER + _SLICE + _SLICE),

@@ -150,6 +150,85 @@ static void step(void)
     }
 }
 
+/* A run over the front of the block on filled memory, to the front of work: its answer, and every
+ * byte that it leaves. */
+static void run_gives(int line, uint64_t number, uint64_t state, size_t bits_len, size_t out_len)
+{
+    static uint8_t before[sizeof block];
+    const size_t steps = number == SCCC_PASSED ? bits_len : 0;
+    uint64_t x0 = state / 2, x1 = state % 2;
+    size_t j;
+    int written = 1;
+    sccc_run_answer r;
+    memcpy(before, block, sizeof block);
+    fill(work, sizeof work);
+    r = sccc_run(state, lent(block, bits_len), bits_len, lent_out(work, out_len), out_len);
+    for (j = 0; j < steps; j++) {
+        uint64_t u = block[j], next = x0 ^ x1 ^ u;
+        written = written && work[2 * j] == u && work[2 * j + 1] == (u ^ x1);
+        x0 = x1;
+        x1 = next;
+    }
+    check(line, r.number == number, "the number of sccc_run");
+    check(line, r.state == (number == SCCC_PASSED ? 2 * x0 + x1 : 0), "the state of sccc_run");
+    check(line, written, "out has each bit and its parity");
+    check(line, as_filled(work, 2 * steps, sizeof work), "out is unchanged where nothing is due");
+    check(line, memcmp(block, before, sizeof block) == 0, "the bits are unchanged");
+}
+
+#define RUN(number, state, bits_len, out_len) run_gives(__LINE__, number, state, bits_len, out_len)
+
+static void run(void)
+{
+    static const size_t lengths[] = {0, 1, 2, 3, 255, 256, 1023, 1024, 1025, 20000};
+    static uint8_t whole[40000];
+    uint64_t state;
+    size_t j;
+    CHECK(sizeof(sccc_run_answer) == 2 * sizeof(uint64_t));
+    for (j = 0; j < sizeof block; j++)
+        block[j] = (uint8_t)(j * j / 7 % 2);
+    for (state = 0; state < 4; state++) {
+        for (j = 0; j < LENGTH(lengths); j++) {
+            size_t n = lengths[j];
+            RUN(SCCC_PASSED, state, n, 2 * n);
+            RUN(SCCC_PASSED, state, n, 2 * n + 1);
+            RUN(SCCC_PASSED, state, n, sizeof work);
+            if (n > 0) {
+                RUN(SCCC_SHORT_OUTPUT, state, n, 2 * n - 1);
+                RUN(SCCC_SHORT_OUTPUT, state, n, n);
+                RUN(SCCC_SHORT_OUTPUT, state, n, 0);
+                block[n - 1] ^= 2;
+                RUN(SCCC_BAD_ELEMENT, state, n, 2 * n);
+                RUN(SCCC_BAD_ELEMENT, state, n, 2 * n - 1);
+                RUN(SCCC_PASSED, state, n - 1, 2 * n);
+                block[n - 1] ^= 2;
+            }
+        }
+        block[0] = 255;
+        RUN(SCCC_BAD_ELEMENT, state, 1, 2);
+        RUN(SCCC_BAD_ELEMENT, state, 1000, 0);
+        block[0] = 0;
+    }
+    RUN(SCCC_BAD_ELEMENT, 4, 0, 0);
+    RUN(SCCC_BAD_ELEMENT, 4, 10, 20);
+    RUN(SCCC_BAD_ELEMENT, 4, 10, 19);
+    for (j = 0; j < LENGTH(not_small); j++) {
+        RUN(SCCC_BAD_ELEMENT, not_small[j], 0, 0);
+        RUN(SCCC_BAD_ELEMENT, not_small[j], 10, 20);
+    }
+    /* the runs over two parts of a list are the run over all of it */
+    for (state = 0; state < 4; state++)
+        for (j = 0; j <= 20000; j += 800) {
+            sccc_run_answer first = sccc_run(state, block, j, work, 2 * j);
+            sccc_run_answer second =
+                sccc_run(first.state, block + j, 20000 - j, work + 2 * j, 40000 - 2 * j);
+            sccc_run_answer joined = sccc_run(state, block, 20000, whole, sizeof whole);
+            CHECK(joined.number == SCCC_PASSED && second.number == SCCC_PASSED);
+            CHECK(second.state == joined.state);
+            CHECK(memcmp(work, whole, sizeof whole) == 0);
+        }
+}
+
 static int interleave_refused(uint64_t number, uint64_t f, uint64_t position)
 {
     sccc_interleaved r = sccc_interleave(f, position);
@@ -829,6 +908,7 @@ static void *call_each(void *argument)
     sccc_format_info r = sccc_format(j->f);
     sccc_slicer s;
     sccc_step(0, 1);
+    sccc_run(0, j->block, r.i / 2, j->work, r.i);
     sccc_interleave(j->f, 1);
     sccc_encode(j->f, j->block, r.k, j->work, r.i, j->once, r.n);
     sccc_labels(j->f, j->once, r.n, others, SCCC_SYMBOLS);
@@ -874,6 +954,7 @@ int main(void)
     } groups[] = {
         {"sccc_format", format},
         {"sccc_step", step},
+        {"sccc_run", run},
         {"sccc_interleave", interleave},
         {"sccc_encode", encode},
         {"sccc_labels", label_lists},

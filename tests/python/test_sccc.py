@@ -104,6 +104,53 @@ class Numbers(Case):
             self.assertRefused(3, sccc.step, n, 0)
             self.assertRefused(3, sccc.step, 0, n)
 
+    def test_run(self):
+        bits = seeded(3, 500)
+        for state in range(4):
+            expected = bytearray()
+            x0, x1 = divmod(state, 2)
+            for bit in bits:
+                expected += bytes((bit, bit ^ x1))
+                x0, x1 = x1, x0 ^ x1 ^ bit
+            end = 2 * x0 + x1
+            out = filled(1003)
+            run = sccc.run(state, bits, out=out)
+            self.assertEqual(run, (expected, end))
+            self.assertEqual((type(run), run.state), (sccc.Run, end))
+            self.assertIs(run.out.obj, out)
+            self.assertEqual(out, expected + filled(1003)[1000:])
+            self.assertEqual(sccc.run(state, bits), (expected, end))
+            self.assertEqual(sccc.run(state, b""), (b"", state))
+            first = sccc.run(state, bits[:123])
+            second = sccc.run(first.state, bits[123:])
+            self.assertEqual((bytes(first.out) + bytes(second.out), second.state), (expected, end))
+
+    def test_run_refusals(self):
+        good, bad = bytes(10), bytes(9) + b"\2"
+        for number, state, bits, room in (
+            (3, 4, good, 20),
+            (3, 4, good, 19),
+            (3, 4, b"", 0),
+            (3, 0, bad, 20),
+            (3, 3, bad, 0),
+            (5, 3, good, 19),
+            (5, 3, good, 10),
+            (5, 0, good, 0),
+            (5, 0, good[:1], 1),
+        ):
+            out = filled(room)
+            self.assertRefused(number, sccc.run, state, bits, out=out)
+            self.assertEqual(out, filled(room))
+        for n in NOT_SMALL:
+            self.assertRefused(3, sccc.run, n, good)
+        self.assertRefused(3, sccc.run, 0, b"\377")
+        memory = memoryview(bytearray(30))
+        self.assertRaises(ValueError, sccc.run, 0, memory[:10], out=memory[9:])
+        self.assertRaises(TypeError, sccc.run, 0, good, out=bytes(20))
+        self.assertRaises(TypeError, sccc.run, 0, "01")
+        self.assertRaises(TypeError, sccc.run, 1.0, good)
+        self.assertEqual(sccc.run(0, memory[:10], out=memory[10:]).state, 0)
+
     def test_interleave_is_equation_a_1(self):
         rows = {}
         with open(os.path.join(ROOT, "data", "annex-c.csv"), newline="") as table:

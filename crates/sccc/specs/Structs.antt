@@ -6,6 +6,7 @@ use lib.Dec.{eqb}
 use Rattle.bits.specs.Checks.{passed}
 use Rattle.bits.specs.Choice.{if_then_else_}
 use Rattle.acm.specs.Formats as acm
+use Rattle.trellis.specs.declared.Ran.{Ran}
 use Rattle.trellis.specs.declared.Stepped as trellis
 use Rattle.interleaver.specs.Interleaver as interleaver
 use Rattle.interleaver.specs.Provenance.{Provenance}
@@ -20,6 +21,7 @@ use Rattle.sccc.specs.declared.Stepped.{Stepped}
 use Rattle.sccc.specs.declared.Interleaved.{Interleaved}
 use Rattle.sccc.specs.declared.SectionRange.{SectionRange}
 use Rattle.sccc.specs.declared.Comparison.{Comparison}
+use Rattle.sccc.specs.declared.run.RunAnswer.{RunAnswer}
 use Rattle.sccc.specs.declared.stream.Slicer.{Slicer}
 use Rattle.sccc.specs.declared.stream.SlicerAnswer.{SlicerAnswer}
 use Rattle.sccc.specs.declared.stream.BlockAnswer.{BlockAnswer}
@@ -32,6 +34,9 @@ infoStruct a p =
 
 abbrev pub stepStruct : trellis.Stepped → Stepped
 stepStruct s = record { number = s .number; systematic = s .systematic; parity = s .parity; state = s .state }
+
+abbrev pub runStruct : Ran → RunAnswer
+runStruct r = record { number = r .number; state = r .state }
 
 abbrev pub positionStruct : interleaver.Answer → Interleaved
 positionStruct a = record { number = a .number; position = a .position }

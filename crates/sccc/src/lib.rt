@@ -16,6 +16,7 @@ use bits::checks;
 use interleaver::Source;
 use interleaver::UpperPosition;
 
+pub mod run;
 pub mod stream;
 
 // The number in the answer of a call that fails no check.

@@ -28,6 +28,14 @@ pub struct Stepped {
     pub state: u64,
 }
 
+/// What `sccc_run` gives.
+#[repr(C)]
+#[derive(Clone, Copy, Debug, PartialEq, Eq)]
+pub struct RunAnswer {
+    pub number: u64,
+    pub state: u64,
+}
+
 /// What `sccc_interleave` gives.
 #[repr(C)]
 #[derive(Clone, Copy, Debug, PartialEq, Eq)]
@@ -93,6 +101,13 @@ pub struct LookAnswer {
 extern "C" {
     fn sccc_format(format: u64) -> FormatInfo;
     fn sccc_step(state: u64, bit: u64) -> Stepped;
+    fn sccc_run(
+        state: u64,
+        bits: *const u8,
+        bits_len: usize,
+        out: *mut u8,
+        out_len: usize,
+    ) -> RunAnswer;
     fn sccc_interleave(format: u64, position: u64) -> Interleaved;
     fn sccc_encode(
         format: u64,
@@ -168,6 +183,19 @@ pub fn format(format: u64) -> FormatInfo {
 pub fn step(state: u64, bit: u64) -> Stepped {
     // SAFETY: it takes numbers alone.
     unsafe { sccc_step(state, bit) }
+}
+
+pub fn run(state: u64, bits: &[u8], out: &mut [u8]) -> RunAnswer {
+    // SAFETY: as in encode.
+    unsafe {
+        sccc_run(
+            state,
+            pointer(bits),
+            bits.len(),
+            pointer_mut(out),
+            out.len(),
+        )
+    }
 }
 
 pub fn interleave(format: u64, position: u64) -> Interleaved {

@@ -1,5 +1,5 @@
 //! The checks of each call and their numbers (document 01: questions at the
-//! door; document 02 for the slicer). Each function gives the number of the
+//! door; document 02 for the calls since). Each function gives the number of the
 //! first check that fails, 0 if none does.
 
 use crate::framing::{FRAME_LABELS, FRAME_SLOTS, SECTIONS};
@@ -105,6 +105,14 @@ pub fn compare(format: u64, a: &[u8], b: &[u8]) -> u64 {
 /// One trellis step.
 pub fn step(state: u64, bit: u64) -> u64 {
     first_failed(&[(ELEMENT, state <= 3 && bit <= 1)])
+}
+
+/// A trellis run from a state.
+pub fn run(state: u64, bits: &[u8], out_len: usize) -> u64 {
+    first_failed(&[
+        (ELEMENT, state <= 3 && all_bits(bits)),
+        (OUTPUT, out_len >= 2 * bits.len()),
+    ])
 }
 
 /// The interleaved position of a position in the upper register.
@@ -282,6 +290,22 @@ mod tests {
         assert_eq!(step(256, 256), ELEMENT);
         assert_eq!(interleave(1, I as u64 - 1), PASSED);
         assert_eq!(interleave(1, I as u64), POSITION);
+    }
+
+    #[test]
+    fn run_asks_3_of_state_and_bits_and_5() {
+        for state in [4, 256, 1 << 32, u64::MAX] {
+            assert_eq!(run(state, &[0, 1], 4), ELEMENT);
+            assert_eq!(run(state, &[0, 1], 3), ELEMENT);
+            assert_eq!(run(state, &[], 0), ELEMENT);
+        }
+        assert_eq!(run(0, &[0, 2], 3), ELEMENT);
+        assert_eq!(run(3, &[255, 1], 4), ELEMENT);
+        assert_eq!(run(3, &[0, 1], 2), OUTPUT);
+        assert_eq!(run(3, &[0, 1], 3), OUTPUT);
+        assert_eq!(run(3, &[0, 1], 4), PASSED);
+        assert_eq!(run(0, &[0, 1], 5), PASSED);
+        assert_eq!(run(2, &[], 0), PASSED);
     }
 
     fn slicer(format: u64, frame_length: u64, waiting: u64) -> Slicer {

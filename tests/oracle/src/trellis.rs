@@ -81,6 +81,14 @@ pub struct Run {
     pub end: State,
 }
 
+impl Run {
+    /// Each bit and its parity, as request L5 has them written.
+    pub fn written(&self) -> Vec<u8> {
+        let steps = self.systematic.iter().zip(&self.parity);
+        steps.flat_map(|(&bit, &parity)| [bit, parity]).collect()
+    }
+}
+
 /// A run over the bits u from a state, without termination.
 pub fn run(start: State, u: &[u8]) -> Run {
     let x = states(start, u);
@@ -123,6 +131,13 @@ mod tests {
             }
         }
         assert_eq!(state_of(4), None);
+    }
+
+    #[test]
+    fn a_run_writes_each_bit_and_its_parity() {
+        assert_eq!(run(ZERO, &[1, 1, 1]).written(), [1, 1, 1, 0, 1, 1]);
+        assert_eq!(run([1, 1], &[0, 1]).written(), [0, 1, 1, 1]);
+        assert_eq!(run([1, 0], &[]).written(), []);
     }
 
     #[test]

@@ -6,7 +6,7 @@ use crate::lent::Lent;
 use crate::slicer;
 use crate::tally::Met;
 use crate::tally::Outcome::{self, Block, Different, Passed, Refused, Same, Wait};
-use interface::{Comparison, FormatInfo, Interleaved, SectionRange, Stepped};
+use interface::{Comparison, FormatInfo, Interleaved, RunAnswer, SectionRange, Stepped};
 use oracle::annex_c::{AnnexC, UpperPosition};
 use oracle::checks::{
     self, BLOCK_WAITS, CHANNEL_LENGTH, ELEMENT, FORMAT, FRAME_LENGTH, LENGTH, OUTPUT, PASSED,
@@ -29,7 +29,7 @@ pub struct Call {
     pub compare: fn(&mut Generator, &AnnexC) -> Compared,
 }
 
-pub const CALLS: [Call; 13] = [
+pub const CALLS: [Call; 14] = [
     Call {
         name: "format",
         outcomes: &[Passed, Refused(FORMAT)],
@@ -41,6 +41,12 @@ pub const CALLS: [Call; 13] = [
         outcomes: &[Passed, Refused(ELEMENT)],
         weight: 2,
         compare: step_call,
+    },
+    Call {
+        name: "run",
+        outcomes: &[Passed, Refused(ELEMENT), Refused(OUTPUT)],
+        weight: 3,
+        compare: run_call,
     },
     Call {
         name: "interleave",
@@ -251,6 +257,49 @@ fn step_call(generator: &mut Generator, _: &AnnexC) -> Compared {
             format: None,
         },
         [equal(found, expected)],
+    )
+}
+
+fn run_call(generator: &mut Generator, _: &AnnexC) -> Compared {
+    let plan = Plan::new(generator, &[ELEMENT, OUTPUT]);
+    let any = generator.below(5000);
+    let length = generator.pick(&[0, 1, 2, 3, any, any, any, any]);
+    let mut state = generator.below(4) as u64;
+    let mut bits = draw::list(generator, length, 1);
+    let fails = plan.fails(generator, ELEMENT);
+    let [wrong_state, wrong_bit] = draw::either(generator, fails);
+    if wrong_state {
+        state = draw::outside(generator, state, 4);
+    }
+    if wrong_bit {
+        draw::spoil(generator, &mut bits, 1);
+    }
+    // There is always room for no bits.
+    let fails = plan.fails(generator, OUTPUT) && length > 0;
+    let out_length = draw::room(generator, 2 * length, fails);
+    let bits = Lent::new(generator, &bits);
+    let mut out = Lent::filled(generator, out_length);
+
+    let number = checks::run(state, bits.list(), out_length);
+    let mut expected = RunAnswer { number, state: 0 };
+    let mut written = vec![];
+    if let (PASSED, Some(x)) = (number, trellis::state_of(state)) {
+        let run = trellis::run(x, bits.list());
+        expected.state = trellis::state_number(run.end);
+        written = run.written();
+    }
+    let found = interface::run(state, bits.list(), out.list_mut());
+    compared(
+        format!("state {state}, {length} bits, output of {out_length}"),
+        Met {
+            outcome: outcome(number),
+            format: None,
+        },
+        [
+            equal(found, expected),
+            bits.unchanged("the list of bits"),
+            out.holds("the output", &written),
+        ],
     )
 }
 
