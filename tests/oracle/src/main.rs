@@ -11,7 +11,7 @@ use oracle::digest::{
 use oracle::encoder::{encode, labels};
 use oracle::slicer::{self, Slicer};
 use oracle::tables::{self, Format};
-use oracle::{annex_d, framing, puncturing_search, self_check, wrong_rows};
+use oracle::{annex_d, framing, puncturing_search, self_check, trellis, wrong_rows};
 use std::io::Write;
 use std::path::PathBuf;
 use std::process::ExitCode;
@@ -26,6 +26,7 @@ const USAGE: &str = "usage: oracle [--annex-c PATH] COMMAND
   streams              the same of a stream of transfer frames
   changes              the same after a frame of format 13
   looks                what a look says at that change
+  runs                 where a run over a block is halfway, and its digest
   ones FORMAT PATTERN  ones in the codeword of pattern 0, 1 or 2
   annex-d              the spread of each interleaver
   wrong-rows           how often annex D's rule misses a wrong row of annex C
@@ -67,6 +68,7 @@ fn command(arguments: &[String]) -> Result<(String, ExitCode), String> {
         ["streams"] => frames(&annex_c()?, stream_blocks)?,
         ["changes"] => frames(&annex_c()?, changed_blocks)?,
         ["looks"] => looks(),
+        ["runs"] => runs()?,
         ["ones", format, pattern] => ones(&annex_c()?, format, pattern)?,
         ["annex-d"] => annex_d::listing(&annex_c()?),
         ["wrong-rows"] => wrong_rows::listing(&annex_c()?),
@@ -127,6 +129,23 @@ fn looks() -> String {
         text.push_str(&format!("{number},{},{}\n", ahead.blocks, ahead.bits));
     }
     text
+}
+
+/// A run from 00 over the first block of a format's frame: half its bits, the
+/// state after those, and the digest of the whole.
+fn runs() -> Result<String, String> {
+    let mut text = String::from("format,bits,state,run\n");
+    for number in FRAME_FORMATS {
+        let f = tables::format(number).ok_or("no such format")?;
+        let block = &frame_blocks(&f)[0];
+        let half = f.K / 2;
+        text.push_str(&format!(
+            "{number},{half},{},{}\n",
+            trellis::state_number(trellis::states(trellis::ZERO, block)[half]),
+            digest(&trellis::run(trellis::ZERO, block).written()),
+        ));
+    }
+    Ok(text)
 }
 
 /// The number of ones in the codeword of a pattern's block.
