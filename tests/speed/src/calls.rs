@@ -1,7 +1,7 @@
 //! The calls that are timed, on both sides, and their arguments.
 
-use crate::plain::Plain;
-use interface::{BlockAnswer, Comparison, Slicer, SlicerAnswer};
+use crate::plain::{self, Plain};
+use interface::{BlockAnswer, Comparison, RunAnswer, Slicer, SlicerAnswer};
 use oracle::digest::{seeded_block, seeded_frame};
 use oracle::framing::{FRAME_SLOTS, SECTIONS};
 use oracle::slicer::MEMORY;
@@ -10,6 +10,7 @@ use oracle::transfer::{marked_bits, MOST_OCTETS};
 
 /// The calls of one side.
 pub trait Side {
+    fn run(&self, state: u64, bits: &[u8], out: &mut [u8]) -> RunAnswer;
     fn encode(&self, format: u64, block: &[u8], work: &mut [u8], out: &mut [u8]) -> u8;
     fn labels(&self, format: u64, codeword: &[u8], out: &mut [u8]) -> u8;
     fn frame(&self, format: u64, labels: &[u8], out: &mut [u16]) -> u8;
@@ -21,6 +22,10 @@ pub trait Side {
 pub struct Library;
 
 impl Side for Library {
+    fn run(&self, state: u64, bits: &[u8], out: &mut [u8]) -> RunAnswer {
+        interface::run(state, bits, out)
+    }
+
     fn encode(&self, format: u64, block: &[u8], work: &mut [u8], out: &mut [u8]) -> u8 {
         interface::encode(format, block, work, out)
     }
@@ -47,6 +52,10 @@ impl Side for Library {
 }
 
 impl Side for Plain {
+    fn run(&self, state: u64, bits: &[u8], out: &mut [u8]) -> RunAnswer {
+        plain::run(state, bits, out)
+    }
+
     fn encode(&self, format: u64, block: &[u8], work: &mut [u8], out: &mut [u8]) -> u8 {
         self.encode(format, block, work, out)
     }
@@ -78,6 +87,8 @@ const LONGEST: usize = MOST_OCTETS;
 
 #[derive(Clone, Copy, Debug, PartialEq, Eq)]
 pub enum Call {
+    /// Over a block, from 11.
+    Run,
     Encode,
     Labels,
     Frame,
@@ -94,7 +105,8 @@ pub enum Call {
 }
 
 impl Call {
-    pub const ALL: [Call; 9] = [
+    pub const ALL: [Call; 10] = [
+        Call::Run,
         Call::Encode,
         Call::Labels,
         Call::Frame,
@@ -108,6 +120,7 @@ impl Call {
 
     pub fn name(self) -> &'static str {
         match self {
+            Call::Run => "run",
             Call::Encode => "encode",
             Call::Labels => "labels",
             Call::Frame => "frame",
@@ -129,7 +142,8 @@ impl Call {
         match self {
             Call::Labels => 3.0,
             Call::Frame => 2.0,
-            Call::Encode
+            Call::Run
+            | Call::Encode
             | Call::CompareSame
             | Call::CompareDiffer
             | Call::PushUsual
@@ -142,7 +156,7 @@ impl Call {
     /// What its time is divided by, and how many of them a call takes.
     pub fn unit(self, format: &Format) -> (&'static str, usize) {
         match self {
-            Call::Encode | Call::Labels | Call::BlockUsual | Call::BlockLongest => {
+            Call::Run | Call::Encode | Call::Labels | Call::BlockUsual | Call::BlockLongest => {
                 ("information bit", format.K)
             }
             Call::PushUsual => ("stream bit", marked_bits(USUAL)),
@@ -201,6 +215,7 @@ impl Arguments {
 /// What the calls of a format write.
 #[derive(PartialEq, Eq)]
 pub struct Buffers {
+    run: Vec<u8>,
     work: Vec<u8>,
     codeword: Vec<u8>,
     labels: Vec<u8>,
@@ -213,6 +228,7 @@ impl Buffers {
     /// Filled with a value that no call writes, but what waits with bits.
     pub fn new(format: &Format) -> Buffers {
         Buffers {
+            run: vec![u8::MAX; 2 * format.K],
             work: vec![u8::MAX; format.I],
             codeword: vec![u8::MAX; format.N],
             labels: vec![u8::MAX; SECTION],
@@ -226,6 +242,7 @@ impl Buffers {
 /// What a call answers.
 #[derive(PartialEq, Eq)]
 pub enum Answer {
+    Run(RunAnswer),
     Number(u8),
     Comparison(Comparison),
     Slicer(SlicerAnswer),
@@ -235,6 +252,7 @@ pub enum Answer {
 impl Answer {
     fn number(&self) -> u64 {
         match self {
+            Answer::Run(answer) => answer.number,
             Answer::Number(number) => u64::from(*number),
             Answer::Comparison(answer) => answer.number,
             Answer::Slicer(answer) => answer.number,
@@ -252,6 +270,7 @@ pub fn make(call: Call, side: &impl Side, a: &Arguments, b: &mut Buffers) -> Ans
         Answer::Block(side.block(a.slicer(marked_bits(octets)), waiting, out))
     };
     match call {
+        Call::Run => Answer::Run(side.run(3, &a.block, &mut b.run)),
         Call::Encode => Answer::Number(side.encode(format, &a.block, &mut b.work, &mut b.codeword)),
         Call::Labels => Answer::Number(side.labels(format, &a.codeword, &mut b.labels)),
         Call::Frame => Answer::Number(side.frame(format, &a.frame_labels, &mut b.frame)),

@@ -21,7 +21,7 @@ use std::time::Duration;
 const ANNEX_C: &str = include_str!("../../../data/annex-c.csv");
 
 const USAGE: &str = "usage: speed [calls | formats | --callgrind-call CALL FORMAT N]
-  CALL is library- or plain-, and then encode, labels, frame, compare-same, compare-differ,
+  CALL is library- or plain-, and then run, encode, labels, frame, compare-same, compare-differ,
   push-1115, push-65536, block-1115 or block-65536";
 
 /// The formats of the first table: the shortest block, one between, the longest.

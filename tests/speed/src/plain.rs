@@ -2,7 +2,7 @@
 //! checks, all tables made beforehand, ordinary loops.
 
 use crate::slicer::PlainSlicer;
-use interface::{BlockAnswer, Comparison, Slicer, SlicerAnswer};
+use interface::{BlockAnswer, Comparison, RunAnswer, Slicer, SlicerAnswer};
 use oracle::annex_c::AnnexC;
 use oracle::framing::{FRAME_LABELS, FRAME_SLOTS};
 use oracle::tables::{Format, SECTION};
@@ -190,6 +190,27 @@ fn top_label(format: &Format) -> u8 {
 /// takes many at once.
 pub fn all_at_most(list: &[u8], top: u8) -> bool {
     list.iter().fold(0, |most, &x| most.max(x)) <= top
+}
+
+/// A trellis run.
+pub fn run(state: u64, bits: &[u8], out: &mut [u8]) -> RunAnswer {
+    let refused = |number| RunAnswer { number, state: 0 };
+    if state > 3 || !all_at_most(bits, 1) {
+        return refused(3);
+    }
+    if out.len() < 2 * bits.len() {
+        return refused(5);
+    }
+    let (mut x0, mut x1) = (state as u8 / 2, state as u8 % 2);
+    for (u, written) in bits.iter().zip(out.chunks_exact_mut(2)) {
+        written[0] = *u;
+        written[1] = u ^ x1;
+        (x0, x1) = (x1, x0 ^ x1 ^ u);
+    }
+    RunAnswer {
+        number: 0,
+        state: u64::from(2 * x0 + x1),
+    }
 }
 
 /// The outer encoder: systematic, parity, systematic for each pair of bits.
