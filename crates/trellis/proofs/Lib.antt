@@ -2,5 +2,5 @@ pub mod Checked
 pub mod Joined
 pub mod Linear
 pub mod Outer
-pub mod Running
 pub mod Runs
+pub mod Turns

@@ -7,14 +7,14 @@ use borrow.Author.Needs.{needs}
 use lib.ListN.{length, drop, length-set}
 use Rattle.bits.proofs.Fill.{Left, left-start, left-as, left-room-two, left-store-two, left-end}
 use Rattle.trellis.specs.Trellis.{stateOf, run}
-use Rattle.trellis.proofs.Running.{Running, running-start, running-next, running-end, run-turn, run-done}
+use Rattle.trellis.proofs.Turns.{Midway, midway-start, midway-next, midway-end, run-turn, run-done}
 use Rattle.trellis.proofs.Runs.{run-length}
 use Rattle.trellis.proofs.steps.run.Statement.{statement}
 use Rattle.trellis.proofs.steps.run.Tie as tie
 
 abbrev Inv-loop : tie.InvT-loop
 Inv-loop state bits out₀ x0₀ x1₀ i₀ n₀ out x0 x1 i n =
-    Running state bits i (x0, x1) × Left out₀ 0 (run (stateOf state) bits) out n (run (x0, x1) (drop i bits))
+    Midway state bits i (x0, x1) × Left out₀ 0 (run (stateOf state) bits) out n (run (x0, x1) (drop i bits))
 
 abbrev μ-loop : tie.MeasureT-loop
 μ-loop state bits out₀ x0₀ x1₀ i₀ n₀ out x0 x1 i n = length bits - i
@@ -27,7 +27,7 @@ room t =
     left-room-two (omega (arith, run-length (stateOf (s .args .state)) (s .args .bits .now), s .pre)) (left-as (run-turn _ _ (l .loop .i) (t .loop-test .taken) refl refl) (l .loop .inv .1))
 
 loop-holds : tie.Need-loop-holds Inv-loop μ-loop
-loop-holds c = (running-start _ _ (search needs), left-start _ _ _)
+loop-holds c = (midway-start _ _ (search needs), left-start _ _ _)
 
 shared-slice-read-u : tie.Need-shared-slice-read-u Inv-loop μ-loop
 shared-slice-read-u c = search needs
@@ -62,7 +62,7 @@ loop-again c =
     let l = t .before in
     let b = l .before .before .before .args .bits .now in
     let turn = run-turn (l .loop .x0, l .loop .x1) b (l .loop .i) (t .loop-test .taken) (c .next .ensures) (c .before .parity .ensures) in
-    (running-next (l .loop .inv .0) (t .loop-test .taken) (c .next .ensures), left-store-two (left-as turn (l .loop .inv .1)))
+    (midway-next (l .loop .inv .0) (t .loop-test .taken) (c .next .ensures), left-store-two (left-as turn (l .loop .inv .1)))
 
 mul-result : tie.Need-mul-result Inv-loop μ-loop
 mul-result c = omega (arith, c .before .loop .inv .0 .first)
@@ -80,7 +80,7 @@ returns c =
     let x = stateOf (s .args .state) in
     let b = s .args .bits .now in
     let long = run-length x b in (
-      running-end (l .loop .inv .0) (c .loop-test .left),
+      midway-end (l .loop .inv .0) (c .loop-test .left),
       left-end (omega (arith, long, s .pre)) (left-as (run-done _ _ (l .loop .i) (c .loop-test .left)) (l .loop .inv .1))
           ∙ ap (λ (n : ℕ). run x b ++ drop n (s .args .out .now)) long,
     )
