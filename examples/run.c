@@ -46,7 +46,8 @@ int main(void)
         sccc_run(stopped.state, block + half, k - half, out + 2 * half, 2 * (k - half));
     pass("second part", ended.number);
 
-    printf("format %" PRIu64 ", stopped after %zu bits in state %" PRIu64 ", run digest %" PRIu64 "\n",
+    printf("format %" PRIu64 ", stopped after %zu bits in state %" PRIu64 ", run digest %" PRIu64
+           "\n",
            format, half, stopped.state, digest(2 * k));
     return EXIT_SUCCESS;
 }

@@ -140,10 +140,10 @@ sccc_stepped sccc_step(uint64_t state, uint64_t bit);
 /*
  * sccc_run: a run of the trellis over a list of bits, from any state.
  *
- * Computes  the steps on each bit in turn: what each gives, and the state after the last. The run is
- *           not terminated, so another may go on from where it ends: what the two write, one behind
- *           the other, and the state of the second are those of one run over both lists. A list of
- *           no bits is a run too, and gives the state back.
+ * Computes  the steps on each bit in turn: what each gives, and the state 2 * x0 + x1 after the
+ *           last. The run is not terminated, so another may go on from where it ends: what the two
+ *           write, one behind the other, and the state of the second are those of one run over both
+ *           lists. A list of no bits is a run too, and gives the state back.
  * Checks    3  the state is 0 to 3, and each element of bits 0 or 1
  *           5  out_len is at least 2 * bits_len
  * Success   number is 0, and state is the state that the run ends in. The first 2 * bits_len bytes

@@ -181,10 +181,27 @@ static void run_gives(int line, uint64_t number, uint64_t state, size_t bits_len
 static void run(void)
 {
     static const size_t lengths[] = {0, 1, 2, 3, 255, 256, 1023, 1024, 1025, 20000};
+    /* document 01's readings: three bits from 00, and the closing steps from the other states */
+    static const struct {
+        uint64_t state;
+        size_t length;
+        uint8_t bits[3], written[6];
+    } readings[] = {
+        {0, 3, {1, 1, 1}, {1, 1, 1, 0, 1, 1}},
+        {1, 2, {1, 1, 0}, {1, 0, 1, 1, 0, 0}},
+        {3, 2, {0, 1, 0}, {0, 1, 1, 1, 0, 0}},
+        {2, 2, {1, 0, 0}, {1, 1, 0, 0, 0, 0}},
+    };
     static uint8_t whole[40000];
     uint64_t state;
     size_t j;
     CHECK(sizeof(sccc_run_answer) == 2 * sizeof(uint64_t));
+    for (j = 0; j < LENGTH(readings); j++) {
+        const size_t n = readings[j].length;
+        sccc_run_answer r = sccc_run(readings[j].state, readings[j].bits, n, work, 2 * n);
+        CHECK(r.number == SCCC_PASSED && r.state == 0);
+        CHECK(memcmp(work, readings[j].written, 2 * n) == 0);
+    }
     for (j = 0; j < sizeof block; j++)
         block[j] = (uint8_t)(j * j / 7 % 2);
     for (state = 0; state < 4; state++) {

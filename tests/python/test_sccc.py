@@ -104,6 +104,12 @@ class Numbers(Case):
             self.assertRefused(3, sccc.step, n, 0)
             self.assertRefused(3, sccc.step, 0, n)
 
+    def test_run_readings(self):
+        """Document 01's: three bits from 00, and the closing steps from the other states."""
+        for state, bits, written in ((0, "111", "111011"), (1, "11", "1011"), (3, "01", "0111"), (2, "10", "1100")):
+            run = sccc.run(state, bytes(map(int, bits)))
+            self.assertEqual(run, (bytes(map(int, written)), 0))
+
     def test_run(self):
         bits = seeded(3, 500)
         for state in range(4):
