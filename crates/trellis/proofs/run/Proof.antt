@@ -5,15 +5,15 @@ use native.Mathlib.Omega.{arith}
 use borrow.Author.Needs.{needs}
 use lib.ListN.{length}
 use Rattle.bits.specs.Checks.{passed}
-use Rattle.bits.proofs.Passed.{when-passed, when-refused}
+use Rattle.bits.proofs.Passed.{when-refused}
 use Rattle.trellis.specs.declared.Ran.{Ran}
 use Rattle.trellis.specs.Run.{runNumber, ran, runOutput}
-use Rattle.trellis.proofs.Checked.{run-passed}
+use Rattle.trellis.proofs.Checked.{run-passed, passing, ran-passed, output-passed}
 use Rattle.trellis.proofs.run.Statement.{statement}
 use Rattle.trellis.proofs.run.Tie as tie
 
-abbrev answer : ℕ → ℕ → Ran
-answer n s = record { number = n; state = s }
+abbrev refusing : ℕ → Ran
+refusing n = record { number = n; state = 0 }
 
 passes : (c : tie.Else1) → (let a = c .before .before .before .before .args in runNumber (a .state) (a .bits .now) (length (a .out .now)) ≡ passed)
 passes c = sym (c .before .check-run .ensures) ∙ c .if1 .left
@@ -25,7 +25,7 @@ returns : tie.Need-returns
 unfolding ran runOutput
 returns c =
     let k = c .before .check-run .ensures in
-    (ap (λ (n : ℕ). answer n 0) k ∙ when-refused _ _ _ (λ e. c .if1 .taken (k ∙ e)), when-refused _ _ _ (λ e. c .if1 .taken (k ∙ e)))
+    (ap refusing k ∙ when-refused _ _ _ (λ e. c .if1 .taken (k ∙ e)), when-refused _ _ _ (λ e. c .if1 .taken (k ∙ e)))
 
 cast-from : tie.Need-cast-from
 cast-from c = omega (arith, run-passed _ _ _ (passes c) .0)
@@ -37,11 +37,10 @@ same-length : tie.Need-same-length
 same-length c = search needs
 
 returns-2 : tie.Need-returns-2
-unfolding ran runOutput
 returns-2 c =
     let e = passes (c .before .before .before .before) in
     let r = c .before .before .run .ensures in
-    (ap (answer passed) (r .0) ∙ when-passed _ _ _ e, r .1 ∙ when-passed _ _ _ e)
+    (ap passing (r .0) ∙ sym (ran-passed _ _ _ e), r .1 ∙ sym (output-passed _ _ _ e))
 
 pub run-spec : {M : Type 1} → statement M
 run-spec = tie.close (tie.spec check-run-requires returns cast-from run-requires same-length returns-2)
