@@ -78,10 +78,6 @@ legal-at top [] e k = zero-le
 legal-at top (x ∷ l) e zero = legal-head top x l e
 legal-at top (x ∷ l) e (suc k) = legal-at top l (legal-tail top x l e) k
 
-pub legal-front : (top : ℕ) (a b : List ℕ) → allAtMost top (a ++ b) ≡ true → allAtMost top a ≡ true
-legal-front top [] b e = refl
-legal-front top (x ∷ a) b e = rw (le-leb x top (legal-head top x (a ++ b) e)) (legal-front top a b (legal-tail top x (a ++ b) e))
-
 pub legal-rest : (top : ℕ) (a b : List ℕ) → allAtMost top (a ++ b) ≡ true → allAtMost top b ≡ true
 legal-rest top [] b e = e
 legal-rest top (x ∷ a) b e = legal-rest top a b (legal-tail top x (a ++ b) e)

@@ -4,7 +4,7 @@ use mathlib.Core.Bool.{true}
 use mathlib.Core.List.{List, _++_}
 use Prim.Native.Nat.{ℕ, _*_, _≤_}
 use borrow.Author.Tests.{le-leb, leb-true}
-use lib.Dec.{leb, lit<}
+use lib.Dec.{lit<}
 use lib.ListN.{length, drop}
 use Rattle.bits.specs.Checks.{_or-else_, passed}
 use Rattle.bits.specs.Legal.{allBits}
@@ -12,14 +12,14 @@ use Rattle.bits.proofs.Passed.{passes, when-passed}
 use Rattle.bits.proofs.Table.{left-true, right-true}
 use Rattle.trellis.specs.declared.Ran.{Ran}
 use Rattle.trellis.specs.Run.{runChecks, runNumber, ran, runOutput}
-use Rattle.trellis.specs.Trellis.{stateNumber, stateOf, run, ends}
+use Rattle.trellis.specs.Trellis.{stateNumber, stateOf, isState, run, ends}
 
 pub run-passed : (s : ℕ) (bits : List ℕ) (room : ℕ) → runNumber s bits room ≡ passed → (s ≤ 3) × (allBits bits ≡ true) × (2 * length bits ≤ room)
 unfolding runNumber
 run-passed s bits room e =
     let part = passes (runChecks s bits room) (true or-else passed) refl e in
     let legal = part 0 (lit< tt) in
-    (leb-true _ _ (left-true (leb s 3) (allBits bits) legal), right-true (leb s 3) (allBits bits) legal, leb-true _ _ (part 1 (lit< tt)))
+    (leb-true _ _ (left-true (isState s) (allBits bits) legal), right-true (isState s) (allBits bits) legal, leb-true _ _ (part 1 (lit< tt)))
 
 pub run-passes : (s : ℕ) → s ≤ 3 → (bits : List ℕ) → allBits bits ≡ true → (room : ℕ) → 2 * length bits ≤ room → runNumber s bits room ≡ passed
 unfolding runNumber

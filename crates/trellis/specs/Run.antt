@@ -8,11 +8,11 @@ use Rattle.bits.specs.Checks.{Check, _or-else_, firstFailed, passed, badElement
 use Rattle.bits.specs.Choice.{if_then_else_}
 use Rattle.bits.specs.Legal.{allBits}
 use Rattle.trellis.specs.declared.Ran.{Ran}
-use Rattle.trellis.specs.Trellis.{stateNumber, stateOf, run, ends}
+use Rattle.trellis.specs.Trellis.{stateNumber, stateOf, isState, run, ends}
 
 abbrev pub runChecks : ℕ → List ℕ → ℕ → List Check
 runChecks s bits room =
-    (leb s 3 && allBits bits) or-else badElement
+    (isState s && allBits bits) or-else badElement
     ∷ leb (2 * length bits) room or-else shortOutput
     ∷ []
 

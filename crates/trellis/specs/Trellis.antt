@@ -1,5 +1,5 @@
 -- The convolutional code of both trellises (4.2; 6, equations 6-1 to 6-4).
-use mathlib.Core.Bool.{_&&_}
+use mathlib.Core.Bool.{Bool, _&&_}
 use mathlib.Core.List.{List, [], _∷_, _++_}
 use Prim.Native.Nat.{ℕ, _+_, _*_, _/_, _%_}
 use lib.Dec.{leb}
@@ -31,12 +31,15 @@ stateNumber x = 2 * x .0 + x .1
 abbrev pub stateOf : ℕ → State
 stateOf s = (s / 2, s % 2)
 
+abbrev pub isState : ℕ → Bool
+isState s = leb s 3
+
 abbrev pub refused : Stepped
 refused = record { number = badElement; systematic = 0; parity = 0; state = 0 }
 
 abbrev pub stepped : ℕ → ℕ → Stepped
 stepped s u =
-    if leb s 3 && leb u 1
+    if isState s && leb u 1
     then record { number = passed; systematic = u; parity = parity (stateOf s) u; state = stateNumber (next (stateOf s) u) }
     else refused
 

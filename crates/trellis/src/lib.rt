@@ -7,6 +7,9 @@ use bits::checks;
 
 pub mod steps;
 
+// The states are 0 to 3.
+const LAST_STATE: u64 = 3;
+
 // The answer of a step: the check's number, the two output bits and the state 2 * x0 + x1 that follows.
 pub struct Stepped {
     pub number: u8,
@@ -20,7 +23,7 @@ pub struct Stepped {
 pub fn step(state: u64, bit: u64) -> Stepped
     ensures { λ r. ⌜ r ≡ stepped state bit ⌝ }
 {
-    if 3 < state {
+    if LAST_STATE < state {
         return refused();
     }
     if 1 < bit {
@@ -76,7 +79,7 @@ pub fn run(state: u64, bits: &[u8], out: &mut [u8]) -> Ran
 fn check_run(state: u64, bits: &[u8], room: usize) -> u8
     ensures { λ r. ⌜ r ≡ runNumber state (now (bits .entry)) room ⌝ }
 {
-    if 3 < state {
+    if LAST_STATE < state {
         return checks::ELEMENT;
     }
     if !bits::all_at_most(bits, 1) {
