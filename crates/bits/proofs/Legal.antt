@@ -11,6 +11,7 @@ use lib.Seq.{drop-drop}
 use Rattle.bits.specs.Legal.{allAtMost}
 use Rattle.bits.proofs.Cases.{by-cases}
 use Rattle.bits.proofs.Lists.{drop-next}
+use Rattle.bits.proofs.Table.{left-true}
 
 and-false : (b : Bool) → (b && false) ≡ false
 and-false true = refl
@@ -77,6 +78,9 @@ pub legal-at : (top : ℕ) (l : List ℕ) → allAtMost top l ≡ true → (k : 
 legal-at top [] e k = zero-le
 legal-at top (x ∷ l) e zero = legal-head top x l e
 legal-at top (x ∷ l) e (suc k) = legal-at top l (legal-tail top x l e) k
+
+pub legal-front : (top : ℕ) (a b : List ℕ) → allAtMost top (a ++ b) ≡ true → allAtMost top a ≡ true
+legal-front top a b e = left-true (allAtMost top a) (allAtMost top b) (rw (legal-both top a b) at e)
 
 pub legal-rest : (top : ℕ) (a b : List ℕ) → allAtMost top (a ++ b) ≡ true → allAtMost top b ≡ true
 legal-rest top [] b e = e

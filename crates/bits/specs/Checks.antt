@@ -40,6 +40,12 @@ otherFrameLength = 10
 abbrev pub blockWaits : ℕ
 blockWaits = 11
 
+abbrev pub manyCuts : ℕ
+manyCuts = 12
+
+abbrev pub badCut : ℕ
+badCut = 13
+
 -- a check: whether it holds, and its number
 pub record Check : Type 0 where
   pub holds : Bool

@@ -25,3 +25,7 @@ pub const FRAME_LENGTH: u8 = 9;
 pub const CHANNEL_LENGTH: u8 = 10;
 // No whole block waits.
 pub const BLOCK_WAITS: u8 = 11;
+// Each list has at most fifteen cuts.
+pub const CUT_COUNT: u8 = 12;
+// No cut falls below the one before it, and none is beyond the input.
+pub const CUT_PLACE: u8 = 13;

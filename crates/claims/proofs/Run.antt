@@ -2,9 +2,7 @@
 use mathlib.Core.List.{_++_}
 use native.Mathlib.Omega.{arith}
 use lib.ListN.{length-append}
-use Rattle.bits.specs.Legal.{allBits}
-use Rattle.bits.proofs.Legal.{legal-both}
-use Rattle.bits.proofs.Table.{left-true}
+use Rattle.bits.proofs.Legal.{legal-front}
 use Rattle.trellis.proofs.Checked.{run-passes, run-passed}
 use Rattle.trellis.proofs.Joined.{answer-joined, output-joined}
 use Rattle.trellis.proofs.Runs.{ends-append, run-append, run-alternates}
@@ -19,7 +17,7 @@ resumes s a b out p = record { answer = answer-joined s a b out p; output = outp
 stops : Stops
 stops s a b room p =
     let (state, legal, fits) = run-passed s (a ++ b) room p in
-    run-passes s state a (left-true (allBits a) (allBits b) (rw (legal-both 1 a b) at legal)) room (omega (arith, fits, length-append a b))
+    run-passes s state a (legal-front 1 a b legal) room (omega (arith, fits, length-append a b))
 
 passes : Passes
 passes = run-passes

@@ -23,7 +23,7 @@ pub fn encode(format: u64, block: &[u8], work: &mut [u8], out: &mut [u8]) -> u8
 }
 
 // The number of the first check of encode that fails, 0 if none does.
-fn check_encode(format: u64, block: &[u8], work: usize, out: usize) -> u8
+pub fn check_encode(format: u64, block: &[u8], work: usize, out: usize) -> u8
     ensures { λ r. ⌜ r ≡ encodeNumber format (now (block .entry)) work out ⌝ }
 {
     let acm::Found::Record(f) = acm::lookup(format) else {

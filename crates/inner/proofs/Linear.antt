@@ -17,7 +17,8 @@ use Rattle.puncture.specs.Puncture.{survives, keptAt, rateMatched}
 use Rattle.puncture.proofs.Kept.{kept-sum, kept-length}
 use Rattle.puncture.proofs.Matched.{rate-matched-sum, rate-matched-length}
 use Rattle.inner.specs.Registers.{readFrom, upper, lower, registers, interleaved, fromOuter}
-use Rattle.inner.proofs.Codewords.{read-length, upper-long}
+use Rattle.inner.proofs.Codewords.{upper-long}
+use Rattle.inner.proofs.Reading.{read-length}
 
 read-sum : (ρ : ℕ → ℕ) (a b : List ℕ) → length a ≡ length b → (i n : ℕ) → readFrom ρ (a ⊕* b) i n ≡ readFrom ρ a i n ⊕* readFrom ρ b i n
 read-sum ρ a b e i zero = refl

@@ -1,7 +1,7 @@
 -- The inner encoder's loop: what is left of each register at time i, a turn, and the end.
 use mathlib.Core.Path.{_≡_, refl, sym, ap, _∙_}
-use mathlib.Core.List.{List, [], _∷_, _++_}
-use Prim.Native.Nat.{ℕ, suc, _+_, _-_, _≤_, _<_}
+use mathlib.Core.List.{List, _∷_, _++_}
+use Prim.Native.Nat.{ℕ, _+_, _≤_, _<_}
 use native.Mathlib.Omega.{arith}
 use borrow.Author.Tests.{leb-true, leb-false}
 use lib.Dec.{eqb, leb}
@@ -16,8 +16,13 @@ use Rattle.puncture.specs.Puncture.{survives, keptAt, counted, counterStart, co
 use Rattle.puncture.proofs.Matched.{rate-matched-counted}
 use Rattle.coder.specs.Coder.{stateIn, turned, stored, finished}
 use Rattle.coder.specs.declared.steps.Coder.{Coder}
+use Rattle.interleaver.specs.Interleaver.{permuted}
+use Rattle.interleaver.specs.Walk.{Walked}
 use Rattle.inner.specs.Left.{starting, reads, upperFrom, lowerFrom, upperLeft, lowerLeft, completed, Fits}
-use Rattle.inner.specs.Registers.{readFrom, upper, lower, registers, interleaved}
+use Rattle.inner.specs.Registers.{upper, lower, registers, interleaved}
+use Rattle.inner.specs.Lent.{Stands, completes, written}
+use Rattle.inner.specs.declared.steps.Progress.{Progress}
+use Rattle.inner.proofs.Reading.{reads-all, read-end, read-bit}
 use Rattle.inner.proofs.Registers.{Two, two-as, two-put-upper, two-put-lower, two-room-upper, two-room-lower}
 
 -- the terminating bits are always left
@@ -33,36 +38,20 @@ pub lower-start : (I Δ : ℕ) (bits : List ℕ) → Δ ≤ I → lower I Δ bit
 lower-start I Δ bits d =
     ap (λ (l : List ℕ). l ++ parities (ends zero-state bits) (termination (ends zero-state bits))) (rate-matched-counted I Δ (parities zero-state bits) d)
 
-pub reads-all : (ρ : ℕ → ℕ) (work : List ℕ) (I : ℕ) → reads ρ work I 0 ≡ readFrom ρ work 0 I
-reads-all ρ work I =
-    let e : I - 0 ≡ I = omega arith in
-    ap (readFrom ρ work 0) e
+module _ (ρ : ℕ → ℕ) (work : List ℕ) (I i : ℕ) (x : State) {u : ℕ} (h : i < I) (bit : u ≡ getD work (ρ i) 0) where
+  upper-turn : (S : ℕ)
+      → upperFrom S ρ i x (reads ρ work I i)
+      ≡ (if survives S (ρ i) then u ∷ upperFrom S ρ (i + 1) (next x u) (reads ρ work I (i + 1))
+      else upperFrom S ρ (i + 1) (next x u) (reads ρ work I (i + 1)))
+  upper-turn S =
+      rw (read-bit ρ work I i h bit) (by-cases (survives S (ρ i)) (λ t. rw t) (λ f. rw f))
 
-module _ (ρ : ℕ → ℕ) (work : List ℕ) (I i : ℕ) where
-  read-end : I ≤ i → reads ρ work I i ≡ []
-  read-end h =
-      let e : I - i ≡ 0 = omega arith in
-      ap (readFrom ρ work i) e
-
-  module _ (x : State) {u : ℕ} (h : i < I) (bit : u ≡ getD work (ρ i) 0) where
-    read-bit : reads ρ work I i ≡ u ∷ reads ρ work I (i + 1)
-    read-bit =
-        let e : I - i ≡ suc (I - (i + 1)) = omega arith in
-        ap (readFrom ρ work i) e ∙ ap (λ (v : ℕ). v ∷ reads ρ work I (i + 1)) (sym bit)
-
-    upper-turn : (S : ℕ)
-        → upperFrom S ρ i x (reads ρ work I i)
-        ≡ (if survives S (ρ i) then u ∷ upperFrom S ρ (i + 1) (next x u) (reads ρ work I (i + 1))
-        else upperFrom S ρ (i + 1) (next x u) (reads ρ work I (i + 1)))
-    upper-turn S =
-        rw read-bit (by-cases (survives S (ρ i)) (λ t. rw t) (λ f. rw f))
-
-    lower-turn : (Δ c : ℕ)
-        → lowerFrom I Δ c x (reads ρ work I i)
-        ≡ (if counted I Δ c .kept then parity x u ∷ lowerFrom I Δ (counted I Δ c .counter) (next x u) (reads ρ work I (i + 1))
-        else lowerFrom I Δ (counted I Δ c .counter) (next x u) (reads ρ work I (i + 1)))
-    lower-turn Δ c =
-        rw read-bit (by-cases (counted I Δ c .kept) (λ t. rw t) (λ f. rw f))
+  lower-turn : (Δ c : ℕ)
+      → lowerFrom I Δ c x (reads ρ work I i)
+      ≡ (if counted I Δ c .kept then parity x u ∷ lowerFrom I Δ (counted I Δ c .counter) (next x u) (reads ρ work I (i + 1))
+      else lowerFrom I Δ (counted I Δ c .counter) (next x u) (reads ρ work I (i + 1)))
+  lower-turn Δ c =
+      rw (read-bit ρ work I i h bit) (by-cases (counted I Δ c .kept) (λ t. rw t) (λ f. rw f))
 
 -- the counter stays below I
 pub counter-low : (I Δ c : ℕ) → Δ ≤ I → c < I → counted I Δ c .counter < I
@@ -103,7 +92,7 @@ module _ (r : Format) (ρ : ℕ → ℕ) (work : List ℕ) where
         (two-as refl (lower-turn ρ work (r .i) i x h bit (r .delta) (c .counter)) above))
 
   -- at the start both registers are left, whole
-  pub completed-start : (out : List ℕ) → r .delta ≤ r .i → Fits r ρ work 0 (starting r)
+  completed-start : (out : List ℕ) → r .delta ≤ r .i → Fits r ρ work 0 (starting r)
       → completed r ρ work 0 (starting r) out ≡ sets out 0 (registers r ρ (interleaved r ρ work))
   completed-start out d fits =
       let bits = interleaved r ρ work in
@@ -113,11 +102,30 @@ module _ (r : Format) (ρ : ℕ → ℕ) (work : List ℕ) where
       rw (reads-all ρ work (r .i), ← lower-start (r .i) (r .delta) bits d) (ap (λ (k : ℕ). sets (sets out 0 U) k L) S ∙ sym (sets-append out 0 U L))
 
   -- at the end the terminating bits are
-  pub completed-end : (i : ℕ) (c : Coder) (out : List ℕ) → r .i ≤ i → completed r ρ work i c out ≡ finished c out
+  completed-end : (i : ℕ) (c : Coder) (out : List ℕ) → r .i ≤ i → completed r ρ work i c out ≡ finished c out
   completed-end i c out h = rw (read-end ρ work (r .i) i h)
 
-  pub end-rooms : (i : ℕ) (c : Coder) → r .i ≤ i → Fits r ρ work i c → (c .upper + 1 < r .n) × (c .lower + 1 < r .n)
+  end-rooms : (i : ℕ) (c : Coder) → r .i ≤ i → Fits r ρ work i c → (c .upper + 1 < r .n) × (c .lower + 1 < r .n)
   end-rooms i c h fits =
       let up = ap (λ (l : List ℕ). c .upper + length (upperFrom (r .survivors) ρ i (stateIn c) l)) (read-end ρ work (r .i) i h) in
       let low = ap (λ (l : List ℕ). c .lower + length (lowerFrom (r .i) (r .delta) (c .counter) (stateIn c) l)) (read-end ρ work (r .i) i h) in
       (omega (arith, up, low, fits .upper-ends, fits .lower-ends, fits .apart), omega (arith, low, fits .lower-ends))
+
+-- a run at the first position
+module _ {r : Format} (α β : List ℕ) {work : List ℕ} (at : Progress) (fits : Fits r (permuted α β) work 0 (starting r)) (coder : at .coder ≡ starting r)
+    (position : at .walk .position .0 ≡ 0) where
+  pub stands-start : Walked (length α) (at .walk) → Stands r α β work at
+  stands-start walked = record { fits = rw (position, coder) fits; walked = walked }
+
+  pub completes-start : (out : List ℕ) → r .delta ≤ r .i → completes r α β work at out ≡ sets out 0 (written r α β work)
+  completes-start out d = rw (position, coder) (completed-start r (permuted α β) work out d fits)
+
+-- and at the last
+module _ {r : Format} {α β work : List ℕ} (at : Progress) (stands : Stands r α β work at) (late : r .i ≤ at .walk .position .0) where
+  pub finish-rooms : {room : ℕ} → r .n ≤ room → (at .coder .upper + 1 < room) × (at .coder .lower + 1 < room)
+  finish-rooms fits =
+      let rooms = end-rooms r (permuted α β) work (at .walk .position .0) (at .coder) late (stands .fits) in
+      (omega (arith, rooms .0), omega (arith, rooms .1))
+
+  pub completes-end : (out : List ℕ) → completes r α β work at out ≡ finished (at .coder) out
+  completes-end out = completed-end r (permuted α β) work (at .walk .position .0) (at .coder) out late

@@ -1,16 +1,19 @@
-// Opened to the encoder alone: the inner encoder reads the outer kept bits at the interleaved positions, and writes the kept bits of both
+// Opened to the encoders above alone: the inner encoder reads the outer kept bits at the interleaved positions, and writes the kept bits of both
 // registers.
 ghost use mathlib.Core.Path.{_≡_};
 ghost use mathlib.Core.Bool.{true};
 ghost use mathlib.Core.List.{_++_};
-ghost use Prim.Native.Nat.{_+_, _*_, _≤_, _<_};
+ghost use Prim.Native.Nat.{ℕ, _+_, _*_, _≤_, _<_};
 ghost use lib.ListN.{length, drop};
 ghost use lib.Seq.{sets};
 ghost use Rattle.acm.specs.Formats.{isFormat, formatOf};
+ghost use Rattle.trellis.specs.Trellis.{ends};
 ghost use Rattle.interleaver.specs.Interleaver.{permuted};
+ghost use Rattle.interleaver.specs.Walk.{Walked};
+ghost use Rattle.coder.specs.Coder.{stateIn};
 ghost use Rattle.inner.specs.Registers.{fromOuter};
 ghost use Rattle.inner.specs.Lent.{Lent, Stands, completes, written};
-ghost use Rattle.inner.specs.Left.{starting, Fits};
+ghost use Rattle.inner.specs.Left.{starting, reads, Fits};
 use acm::Format;
 use coder::steps::Coder;
 use interleaver::steps::Walk;
@@ -55,14 +58,6 @@ fn write(
     requires { ⌜ Fits f (permuted (now alpha) (now beta)) (now work) 0 (starting f) ⌝ }
     ensures { λ _. ⌜ now (out .exit) ≡ sets (now (out .entry)) 0 (written f (now (alpha .entry)) (now (beta .entry)) (now (work .entry))) ⌝ }
 {
-    let walk = interleaver::steps::start();
-    let coder = Coder {
-        x0: 0,
-        x1: 0,
-        upper: 0,
-        lower: f.s,
-        counter: f.delta,
-    };
     let end = advance(
         f,
         alpha,
@@ -72,20 +67,35 @@ fn write(
         pattern,
         work,
         out,
-        Progress { walk, coder },
+        start(f),
         f.i,
     );
     coder::steps::finish(end.coder, out);
 }
 
 // Where a run over the positions stands.
-struct Progress {
-    walk: Walk,
-    coder: Coder,
+pub struct Progress {
+    pub walk: Walk,
+    pub coder: Coder,
+}
+
+// The run at the first position.
+pub fn start(f: Format) -> Progress
+    ensures { λ r. ⌜ (r .coder ≡ starting f) × (r .walk .position .0 ≡ 0) × ((W : ℕ) → Walked W (r .walk)) ⌝ }
+{
+    let walk = interleaver::steps::start();
+    let coder = Coder {
+        x0: 0,
+        x1: 0,
+        upper: 0,
+        lower: f.s,
+        counter: f.delta,
+    };
+    Progress { walk, coder }
 }
 
 // The run from any position to any later one, a column's rest at a time: inside a column nothing is carried.
-fn advance(
+pub fn advance(
     f: Format,
     alpha: &[u16],
     beta: &[u8],
@@ -101,6 +111,7 @@ fn advance(
     requires { ⌜ Stands f (now alpha) (now beta) (now work) from × (from .walk .position .0 ≤ to) × (to ≤ f .i) ⌝ }
     ensures { λ r. ⌜ Stands f (now (alpha .entry)) (now (beta .entry)) (now (work .entry)) r × (r .walk .position .0 ≡ to) ⌝ }
     ensures { λ r. ⌜ completes f (now (alpha .entry)) (now (beta .entry)) (now (work .entry)) r (now (out .exit)) ≡ completes f (now (alpha .entry)) (now (beta .entry)) (now (work .entry)) from (now (out .entry)) ⌝ }
+    ensures { λ r. ⌜ stateIn (r .coder) ≡ ends (stateIn (from .coder)) (reads (permuted (now (alpha .entry)) (now (beta .entry))) (now (work .entry)) to (from .walk .position .0)) ⌝ }
 {
     let mut at = from;
     while at.walk.position.0 < to {
@@ -138,6 +149,7 @@ fn stretch(
     requires { ⌜ Stands f (now alpha) (now beta) (now work) from × (from .walk .position .0 < to) × (to ≤ f .i) × (to ≤ length (now alpha) * (from .walk .column + 1)) ⌝ }
     ensures { λ r. ⌜ Stands f (now (alpha .entry)) (now (beta .entry)) (now (work .entry)) r × (r .walk .position .0 ≡ to) ⌝ }
     ensures { λ r. ⌜ completes f (now (alpha .entry)) (now (beta .entry)) (now (work .entry)) r (now (out .exit)) ≡ completes f (now (alpha .entry)) (now (beta .entry)) (now (work .entry)) from (now (out .entry)) ⌝ }
+    ensures { λ r. ⌜ stateIn (r .coder) ≡ ends (stateIn (from .coder)) (reads (permuted (now (alpha .entry)) (now (beta .entry))) (now (work .entry)) to (from .walk .position .0)) ⌝ }
 {
     let mut walk = from.walk;
     let mut coder = from.coder;

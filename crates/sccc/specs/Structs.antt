@@ -12,6 +12,8 @@ use Rattle.interleaver.specs.Interleaver as interleaver
 use Rattle.interleaver.specs.Provenance.{Provenance}
 use Rattle.framing.specs.Calls.{sectionNumber}
 use Rattle.compare.specs.Comparison as compare
+use Rattle.cuts.specs.declared.States.{States}
+use Rattle.segments.specs.declared.Segmented.{Segmented}
 use Rattle.slicer.specs.Calls as slicer
 use Rattle.slicer.specs.Change.{LookAnswer as Look}
 use Rattle.slicer.specs.declared.Slicer as below
@@ -21,6 +23,8 @@ use Rattle.sccc.specs.declared.Stepped.{Stepped}
 use Rattle.sccc.specs.declared.Interleaved.{Interleaved}
 use Rattle.sccc.specs.declared.SectionRange.{SectionRange}
 use Rattle.sccc.specs.declared.Comparison.{Comparison}
+use Rattle.sccc.specs.declared.machine.SegmentStates.{SegmentStates}
+use Rattle.sccc.specs.declared.machine.SegmentsAnswer.{SegmentsAnswer}
 use Rattle.sccc.specs.declared.run.RunAnswer.{RunAnswer}
 use Rattle.sccc.specs.declared.stream.Slicer.{Slicer}
 use Rattle.sccc.specs.declared.stream.SlicerAnswer.{SlicerAnswer}
@@ -37,6 +41,12 @@ stepStruct s = record { number = s .number; systematic = s .systematic; parity =
 
 abbrev pub runStruct : Ran → RunAnswer
 runStruct r = record { number = r .number; state = r .state }
+
+abbrev pub statesStruct : States → SegmentStates
+statesStruct s = record { ended = s .ended; started = s .started }
+
+abbrev pub segmentsStruct : Segmented → SegmentsAnswer
+segmentsStruct a = record { number = a .number; outer = statesStruct (a .outer); inner = statesStruct (a .inner) }
 
 abbrev pub positionStruct : interleaver.Answer → Interleaved
 positionStruct a = record { number = a .number; position = a .position }

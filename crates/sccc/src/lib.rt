@@ -16,6 +16,7 @@ use bits::checks;
 use interleaver::Source;
 use interleaver::UpperPosition;
 
+pub mod machine;
 pub mod run;
 pub mod stream;
 

@@ -6,12 +6,7 @@ use native.Mathlib.Omega.{arith}
 use lib.ListN.{length}
 use Rattle.bits.specs.Sum.{_⊕_, _⊕*_}
 use Rattle.bits.proofs.Sums.{interchange, ⊕*-append}
-use Rattle.trellis.specs.Trellis.{State, zero-state, parity, next, run, parities, ends, terminating, termination, terminated, kept, outer}
-
--- states add bit by bit
-infixl 68 _⊕ₛ_
-abbrev pub _⊕ₛ_ : State → State → State
-x ⊕ₛ y = (x .0 ⊕ y .0, x .1 ⊕ y .1)
+use Rattle.trellis.specs.Trellis.{State, zero-state, _⊕ₛ_, parity, next, run, parities, ends, terminating, termination, terminated, kept, outer}
 
 pub parity-sum : (x y : State) (u v : ℕ) → parity (x ⊕ₛ y) (u ⊕ v) ≡ parity x u ⊕ parity y v
 parity-sum x y u v = interchange u v (x .1) (y .1)

@@ -58,7 +58,7 @@ pub terminated-bits : (x : State) (bits : List ℕ) → allBits bits ≡ true �
 terminated-bits x bits h = legal-append 1 bits (termination (ends x bits)) h (termination-bits (ends x bits))
 
 -- a state of two bits stays one, and its number is its own
-ends-bits : (x : State) (bits : List ℕ) → x .0 ≤ 1 → x .1 ≤ 1 → (ends x bits .0 ≤ 1) × (ends x bits .1 ≤ 1)
+pub ends-bits : (x : State) (bits : List ℕ) → x .0 ≤ 1 → x .1 ≤ 1 → (ends x bits .0 ≤ 1) × (ends x bits .1 ≤ 1)
 ends-bits x [] h k = (h, k)
 ends-bits x (u ∷ us) h k = ends-bits (next x u) us k (omega arith)
 

@@ -16,6 +16,11 @@ State = ℕ × ℕ
 abbrev pub zero-state : State
 zero-state = (0, 0)
 
+-- states add bit by bit (6-3)
+infixl 68 _⊕ₛ_
+abbrev pub _⊕ₛ_ : State → State → State
+x ⊕ₛ y = (x .0 ⊕ y .0, x .1 ⊕ y .1)
+
 -- equation 6-1 with the matrices of 6-4: on the bit u the step gives u and then this parity,
 abbrev pub parity : State → ℕ → ℕ
 parity x u = u ⊕ x .1

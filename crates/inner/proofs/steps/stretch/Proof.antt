@@ -1,11 +1,12 @@
 -- At each position the walk's row and column are right, and what is left to store are the registers of the bits that are yet to be read.
-use mathlib.Core.Path.{_≡_, refl, ap, _∙_}
+use mathlib.Core.Path.{_≡_, refl, sym, ap, _∙_}
 use Prim.Native.Nat.{ℕ, _+_, _*_, _-_, _≤_, _<_}
 use native.Mathlib.Omega.{arith}
 use borrow.Author.Needs.{needs}
 use lib.Dec.{eqb}
 use lib.ListN.{length, getD}
 use Rattle.acm.specs.Formats.{M}
+use Rattle.trellis.specs.Trellis.{ends}
 use Rattle.interleaver.specs.Interleaver.{permuted}
 use Rattle.interleaver.specs.Walk.{Walked, InColumn}
 use Rattle.interleaver.proofs.Laws.{permuted-below}
@@ -13,7 +14,9 @@ use Rattle.interleaver.proofs.Walks.{walked-inside, walked-column, in-column, i
 use Rattle.puncture.specs.Puncture.{period, survives}
 use Rattle.puncture.proofs.Laid.{laid-survives}
 use Rattle.puncture.proofs.Zeroed.{pattern-low}
-use Rattle.inner.specs.Left.{completed}
+use Rattle.coder.specs.Coder.{stateIn}
+use Rattle.inner.specs.Left.{reads, completed}
+use Rattle.inner.proofs.Reading.{end-next, end-now}
 use Rattle.inner.proofs.Turns.{Going, going-start, going-fits, going-rooms, going-turn, counter-low}
 use Rattle.inner.proofs.steps.stretch.Statement.{statement}
 use Rattle.inner.proofs.steps.stretch.Tie as tie
@@ -23,6 +26,7 @@ Inv-loop f alpha beta starts residues pattern work out₀ to walk₀ coder₀ ou
     let ρ = permuted alpha beta in
     (walk .position .0 ≤ to) × InColumn (length alpha) walk × (walk .column ≡ walk₀ .column) × (coder .counter < f .i)
     × Going f ρ work (length out₀) (completed f ρ work (walk₀ .position .0) coder₀ out₀) out (walk .position .0) coder
+    × (ends (stateIn coder) (reads ρ work to (walk .position .0)) ≡ ends (stateIn coder₀) (reads ρ work to (walk₀ .position .0)))
 
 abbrev μ-loop : tie.MeasureT-loop
 μ-loop f alpha beta starts residues pattern work out₀ to walk₀ coder₀ out walk coder = to - walk .position .0
@@ -85,6 +89,7 @@ loop-holds c =
       refl,
       stands .fits .counter-low,
       going-start (s .args .f) (permuted (s .args .alpha .now) (s .args .beta .now)) (s .args .work .now) (s .args .out .now) _ (s .args .from .coder) (stands .fits),
+      refl,
     )
 
 interleaved-at-requires : tie.Need-interleaved-at-requires Inv-loop μ-loop
@@ -138,6 +143,7 @@ loop-again c =
     let l = loop t in
     let x = s t .args in
     let p = s t .pre .0 in
+    let bit = ap (λ (k : ℕ). getD (x .work .now) k 0) (read-at r _ (n .number .ensures)) in
     rw (c .down .ensures, u .turn .ensures .0, u .turn .ensures .1) (
       omega (arith, t .if1 .taken),
       in-column-down _ (l .loop .walk) (l .loop .inv .1) (row t),
@@ -145,7 +151,8 @@ loop-again c =
       counter-low (x .f .i) (x .f .delta) (l .loop .coder .counter) (omega (arith, p .deletes)) (l .loop .inv .3),
       going-turn (x .f) (permuted (x .alpha .now) (x .beta .now)) (x .work .now) (l .loop .walk .position .0) (l .loop .coder) (l .loop .inv .4)
           (getD (x .pattern .now) (r .residue-at .result) 0) _ (omega (arith, t .if1 .taken, s t .pre .1 .2))
-          (ap (λ (k : ℕ). getD (x .work .now) k 0) (read-at r _ (n .number .ensures))) (marked r),
+          bit (marked r),
+      end-next (permuted (x .alpha .now) (x .beta .now)) (x .work .now) (x .to) (l .loop .walk .position .0) (stateIn (l .loop .coder)) (t .if1 .taken) bit ∙ l .loop .inv .5,
     )
 
 carry-requires : tie.Need-carry-requires Inv-loop μ-loop
@@ -168,7 +175,10 @@ returns c =
         record { fits = rw at (going-fits (x .f) (permuted (x .alpha .now) (x .beta .now)) (x .work .now) (l .loop .walk .position .0) (l .loop .coder) going (l .loop .inv .3)); walked = c .carry .ensures .1 },
         omega (arith, at, c .before .if1 .left, l .loop .inv .0),
       ),
-      rw at (going .rest),
+      (
+        rw at (going .rest),
+        sym (end-now (permuted (x .alpha .now) (x .beta .now)) (x .work .now) (x .to) (l .loop .walk .position .0) (stateIn (l .loop .coder)) (c .before .if1 .left)) ∙ l .loop .inv .5,
+      ),
     )
 
 pub stretch-spec : {M : Type 1} → statement M

@@ -1,0 +1,2 @@
+pub mod Propagations
+pub mod Segments

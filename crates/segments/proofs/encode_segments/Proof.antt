@@ -1,0 +1,139 @@
+-- A call that fails a check returns before it writes; one that passes leaves what encode leaves, since the segmented trellises do.
+use mathlib.Core.Path.{_≡_, sym, ap, ap₂, subst, _∙_}
+use mathlib.Core.List.{List, _++_}
+use Prim.Native.Nat.{ℕ}
+use native.Mathlib.Omega.{arith}
+use borrow.Author.Needs.{needs}
+use lib.ListN.{length, drop}
+use Rattle.bits.specs.Checks.{passed}
+use Rattle.bits.proofs.Passed.{when-passed, when-refused}
+use Rattle.acm.specs.Formats.{formatOf}
+use Rattle.acm.proofs.Laws.{format-sound}
+use Rattle.trellis.specs.Trellis.{outer}
+use Rattle.interleaver.specs.Interleaver.{π}
+use Rattle.inner.specs.Registers.{interleaved, fromOuter}
+use Rattle.inner.proofs.Codewords.{from-outer-front}
+use Rattle.encoder.specs.Codeword.{codeword}
+use Rattle.encoder.specs.Calls.{encodeWorkspace, encodeOutput}
+use Rattle.encoder.proofs.Checked.{EncodePassed, encode-passed}
+use Rattle.encoder.proofs.Codewords.{outer-long}
+use Rattle.cuts.specs.Cuts.{Cuts, statesOf}
+use Rattle.cuts.specs.declared.States.{States}
+use Rattle.segments.specs.Calls.{segmentsNumber, refused as refusal, segmented, segmentsWorkspace, segmentsOutput}
+use Rattle.segments.specs.declared.Segmented.{Segmented}
+use Rattle.segments.proofs.Checked.{SegmentsPassed, segments-passed, work-read, work-bits}
+use Rattle.segments.proofs.encode_segments.Statement.{statement}
+use Rattle.segments.proofs.encode_segments.Tie as tie
+
+-- the start, from the check; and where the outer bits are written, from the call that reads them
+abbrev start : tie.After-check-segments → tie.Start
+start k = k .before .before .before .before .before .before
+
+abbrev written : tie.After-encode-arg3 → tie.After-encode
+written c = c .before .before .before .before
+
+-- what a call that has passed knows of its arguments
+module _ (d : tie.Else1) where
+  abbrev s : tie.Start
+  s = start (d .before)
+
+  zero : segmentsNumber (s .args .format) (s .args .block .now) (length (s .args .work .now)) (length (s .args .out .now)) (s .args .outer .now) (s .args .inner .now) ≡ passed
+  zero = sym (d .before .check-segments .ensures) ∙ d .if1 .left
+
+  sound : SegmentsPassed (s .args .format) (s .args .block .now) (length (s .args .work .now)) (length (s .args .out .now)) (s .args .outer .now) (s .args .inner .now)
+  sound = segments-passed _ _ _ _ _ _ zero
+
+  encodes : EncodePassed (s .args .format) (s .args .block .now) (length (s .args .work .now)) (length (s .args .out .now))
+  encodes = encode-passed _ _ _ _ (sound .encodes)
+
+  long : length (outer (s .args .block .now)) ≡ formatOf (s .args .format) .i
+  long = outer-long _ (encodes .known) (s .args .block .now) (encodes .long)
+
+-- a refused call's number is not 0
+refused : (c : tie.Then1)
+    → (let a = start (c .before) .args in segmentsNumber (a .format) (a .block .now) (length (a .work .now)) (length (a .out .now)) (a .outer .now) (a .inner .now) ≡ passed → ⊥)
+refused c e = c .if1 .taken (c .before .check-segments .ensures ∙ e)
+
+check-segments-requires : tie.Need-check-segments-requires
+check-segments-requires c κs = search needs
+
+no-states-requires : tie.Need-no-states-requires
+no-states-requires c κs = search needs
+
+no-states-requires-2 : tie.Need-no-states-requires-2
+no-states-requires-2 c κs = search needs
+
+returns : tie.Need-returns
+unfolding segmented segmentsWorkspace segmentsOutput
+returns c =
+    let n = c .before in
+    let r = n .before in
+    let k = r .before in (
+      ap₂ {C = Segmented} (λ (o i : States). (record { number = k .check-segments .result; outer = o; inner = i })) (n .no-states .ensures) (c .no-states2 .ensures)
+          ∙ ap refusal (k .check-segments .ensures) ∙ when-refused _ _ _ (refused r),
+      (when-refused _ _ _ (refused r), when-refused _ _ _ (refused r)),
+    )
+
+encode-requires : tie.Need-encode-requires
+encode-requires c κs =
+    let d = c .before in
+    let p = encodes d in
+    let a = s d .args in (
+      (
+        omega (arith, p .long, format-sound (a .format) (p .known) .even),
+        p .bits,
+        subst (λ (n : ℕ). Cuts n (a .outer .now)) (sym (p .long)) (sound d .outer-cuts),
+      ),
+      omega (arith, long d, p .work-fits),
+    )
+
+encode-requires-2 : tie.Need-encode-requires-2
+encode-requires-2 c κs =
+    let w = written c in
+    let d = w .before .before in
+    let p = encodes d in
+    let a = s d .args in (
+      (p .known, omega (arith, w .encode .kept .1 .1 .0, p .work-fits), p .out-fits),
+      (sound d .inner-cuts, rw (w .encode .ensures .1) (work-bits (a .format) (p .known) (a .block .now) _ (long d) (p .bits))),
+    )
+
+same-length : tie.Need-same-length
+same-length c = search needs
+
+same-length-2 : tie.Need-same-length-2
+same-length-2 c = search needs
+
+returns-2 : tie.Need-returns-2
+unfolding segmented segmentsWorkspace segmentsOutput encodeWorkspace encodeOutput codeword
+returns-2 c =
+    let n = c .before .before in
+    let w = written (n .before) in
+    let d = w .before .before in
+    let a = s d .args in
+    let f = a .format in
+    let p = encodes d in
+    let work = w .encode .ensures .1 in
+    let inner = n .encode2 .ensures .0 ∙ ap (λ (l : List ℕ). statesOf (a .inner .now) (interleaved (formatOf f) (π f) l)) work ∙ ap (statesOf (a .inner .now)) (work-read f (p .known) (a .block .now) _ (long d)) in (
+      ap₂ {C = Segmented} (λ (o i : States). (record { number = passed; outer = o; inner = i })) (w .encode .ensures .0) inner ∙ when-passed _ _ _ (zero d),
+      (
+        work ∙ ap (λ (n : ℕ). outer (a .block .now) ++ drop n (a .work .now)) (long d) ∙ when-passed _ _ _ (sound d .encodes) ∙ when-passed _ _ _ (zero d),
+        n .encode2 .ensures .1
+            ∙ ap (λ (l : List ℕ). fromOuter f l ++ drop (formatOf f .n) (a .out .now)) work
+            ∙ ap (λ (l : List ℕ). l ++ drop (formatOf f .n) (a .out .now)) (from-outer-front f (p .known) (outer (a .block .now)) _ (long d))
+            ∙ when-passed _ _ _ (sound d .encodes) ∙ when-passed _ _ _ (zero d),
+      ),
+    )
+
+pub encode-segments-spec : {M : Type 1} → statement M
+encode-segments-spec =
+    tie.close
+    (tie.spec
+    check-segments-requires
+    no-states-requires
+    no-states-requires-2
+    returns
+    encode-requires
+    encode-requires-2
+    same-length
+    same-length-2
+    returns-2)
