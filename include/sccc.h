@@ -26,8 +26,9 @@
  *
  * WARNING: FORMATS 12 AND 14 ARE PROVISIONAL. Ten rows of their interleaver's table (annex C, size
  * 32,040, rows 257 to 266) are missing from the copy of the standard that was at hand. Others stand
- * in for them, so what sccc_interleave and sccc_encode give for these two formats is not the
- * standard's. A program learns it from the field provisional of sccc_format's answer.
+ * in for them, so what sccc_interleave, sccc_encode and sccc_encode_segments give for these two
+ * formats is not the standard's. A program learns it from the field provisional of sccc_format's
+ * answer.
  */
 #ifndef SCCC_H
 #define SCCC_H
@@ -50,6 +51,8 @@ extern "C" {
 #define SCCC_BAD_FRAME_LENGTH 9 /* the transfer frame does not have 223 to 65,536 octets */
 #define SCCC_OTHER_LENGTH 10    /* the transfer frame is not as long as the channel's first */
 #define SCCC_BLOCK_WAITS 11     /* K or more bits still wait */
+#define SCCC_TOO_MANY_CUTS 12   /* a list has more than fifteen cuts */
+#define SCCC_BAD_CUT 13         /* a cut falls below the one before it, or lies beyond the input */
 
 /* Sizes that all formats share, and the largest of those that they do not. */
 #define SCCC_FORMATS 27          /* the formats are 1 to 27 */
@@ -57,6 +60,7 @@ extern "C" {
 #define SCCC_SECTIONS 16         /* codewords of a frame */
 #define SCCC_FRAME_LABELS 129600 /* labels of a frame */
 #define SCCC_FRAME_SLOTS 129920  /* slots of a frame */
+#define SCCC_SEGMENTS 16         /* segments of a trellis' input, at most */
 #define SCCC_MAX_K 43678         /* bits of a block */
 #define SCCC_MAX_I 65520         /* bytes of a workspace */
 #define SCCC_MAX_N 48600         /* bits of a codeword */
@@ -84,6 +88,16 @@ typedef struct {
 typedef struct {
     uint64_t number, position;
 } sccc_interleaved;
+
+/* of each segment: the state in which its run from zero ends, and its true starting state */
+typedef struct {
+    uint8_t ended[SCCC_SEGMENTS], started[SCCC_SEGMENTS];
+} sccc_segment_states;
+
+typedef struct {
+    uint64_t number;
+    sccc_segment_states outer, inner;
+} sccc_segments_answer;
 
 /* where the section stands in the caller's labels */
 typedef struct {
@@ -181,6 +195,36 @@ sccc_interleaved sccc_interleave(uint64_t format, uint64_t position);
  */
 uint8_t sccc_encode(uint64_t format, const uint8_t *block, size_t block_len, uint8_t *work,
                     size_t work_len, uint8_t *out, size_t out_len);
+
+/*
+ * sccc_encode_segments: the encoder by segments (section 6).
+ *
+ * Computes  the codeword as encoders in parallel do: each segment of a trellis' input is run from
+ *           the zero state, its true starting state is worked out from where those runs end
+ *           (equation 6-6), and it is run again from there. The outer trellis' input is the block,
+ *           the inner one's the I interleaved bits. A list of cuts makes one segment more than it
+ *           has cuts: the first begins at 0 and each other at a cut, and each ends where the next
+ *           begins, the last at the input's end. Equal cuts make an empty segment, as do a cut at 0
+ *           and one at the end. The two lists may overlap, since neither is written.
+ * Checks    1   the format is 1 to 27
+ *           2   block_len is K
+ *           3   each element of block is 0 or 1
+ *           4   work_len is at least I
+ *           5   out_len is at least N
+ *           12  outer_len and inner_len are at most 15
+ *           13  no cut is below the one before it in its list, none of outer_cuts is above K, and
+ *               none of inner_cuts above I
+ * Success   number is 0. work and out are as sccc_encode leaves them, wherever the cuts are. For
+ *           each trellis and each segment, in order from element 0 on, ended is the state
+ *           2 * x0 + x1 in which its run from zero ends, and started the state that the plain run
+ *           has where it begins. Both are 0 past the last segment.
+ * Refusal   number is the check's, and every state is 0. work and out are as they were.
+ */
+sccc_segments_answer sccc_encode_segments(uint64_t format, const uint8_t *block, size_t block_len,
+                                          uint8_t *work, size_t work_len, uint8_t *out,
+                                          size_t out_len, const uint16_t *outer_cuts,
+                                          size_t outer_len, const uint16_t *inner_cuts,
+                                          size_t inner_len);
 
 /*
  * sccc_labels: the row-column interleaver and the labels (4.5, 4.6).

@@ -8,12 +8,12 @@
 Data. A bit is a byte, 0 or 1, a label a byte below 2^m, an octet of a transfer frame a byte. They are lent as any object with
 the buffer protocol whose elements are one byte and lie in one piece: bytes, bytearray, memoryview, array.array, a numpy array of
 uint8 or bool. Nothing is copied. A call that writes takes the memory for it as out= (and work=), or allocates it, and returns a
-memoryview of what it wrote, which numpy.asarray takes as it is.
+memoryview of what it wrote, which numpy.asarray takes as it is. Cuts are integers, in a list or anything else that yields them.
 
 Refusals. A call makes the checks that include/sccc.h lists with it, in that order, and raises ScccError with the number of the
 first one that fails; memory lent to it is then as it was. Numbers of any size may be given: 257 is not format 1, nor is
-2^64 + 1. Memory of the wrong kind (of other elements, not in one piece, read-only where it is to be written) raises TypeError,
-and memory that overlaps ValueError, before any check.
+2^64 + 1, and 2^16 and -1 are no cuts. Memory of the wrong kind (of other elements, not in one piece, read-only where it is to be
+written) raises TypeError, and memory that overlaps ValueError, before any check.
 
 Formats 12 and 14 are provisional: their interleaver has rows that stand in for published ones, so their codewords are not the
 standard's. format_info says so.
@@ -31,7 +31,7 @@ import operator
 import os
 import sys
 from array import array
-from typing import Any, Iterator, List, NamedTuple, Optional, SupportsIndex, Union
+from typing import Any, Iterable, Iterator, List, NamedTuple, Optional, SupportsIndex, Tuple, Union
 
 if sys.version_info >= (3, 12):
     from collections.abc import Buffer
@@ -39,9 +39,10 @@ else:
     Buffer = Any
 
 __all__ = [
-    "FORMATS", "SYMBOLS", "SECTIONS", "FRAME_LABELS", "FRAME_SLOTS", "LEAST_TRANSFER_FRAME", "MOST_TRANSFER_FRAME",
-    "WAITING_MEMORY", "MEANINGS", "ScccError", "FormatInfo", "Step", "Run", "Comparison", "Look", "Slicer",
-    "load", "format_info", "step", "run", "interleave", "encode", "labels", "frame", "section", "compare",
+    "FORMATS", "SYMBOLS", "SECTIONS", "FRAME_LABELS", "FRAME_SLOTS", "SEGMENTS", "LEAST_TRANSFER_FRAME", "MOST_TRANSFER_FRAME",
+    "WAITING_MEMORY", "MEANINGS", "ScccError", "FormatInfo", "Step", "Run", "SegmentStates", "Segments", "Comparison", "Look",
+    "Slicer", "load", "format_info", "step", "run", "interleave", "encode", "encode_segments", "labels", "frame", "section",
+    "compare",
 ]
 
 #: The formats are 1 to 27.
@@ -54,6 +55,8 @@ SECTIONS = 16
 FRAME_LABELS = 129600
 #: Slots of a frame.
 FRAME_SLOTS = 129920
+#: Segments of a trellis' input, at most.
+SEGMENTS = 16
 #: Octets of a transfer frame, at least and at most.
 LEAST_TRANSFER_FRAME = 223
 MOST_TRANSFER_FRAME = 65536
@@ -71,6 +74,8 @@ MEANINGS = {
     9: "the transfer frame does not have 223 to 65,536 octets",
     10: "the transfer frame is not as long as the channel's first",
     11: "K or more bits still wait",
+    12: "a list has more than fifteen cuts",
+    13: "a cut falls below the one before it, or lies beyond the input",
 }
 
 
@@ -116,6 +121,21 @@ class Run(NamedTuple):
 
     out: memoryview
     state: int
+
+
+class SegmentStates(NamedTuple):
+    """Of each segment of a trellis' input: the state in which its run from zero ends, and its true starting state."""
+
+    ended: Tuple[int, ...]
+    started: Tuple[int, ...]
+
+
+class Segments(NamedTuple):
+    """A codeword that was encoded by segments, and the states of each trellis' segments, as many as there are."""
+
+    codeword: memoryview
+    outer: SegmentStates
+    inner: SegmentStates
 
 
 class Comparison(NamedTuple):
@@ -185,11 +205,33 @@ def encode(format: SupportsIndex, block: Buffer, *, work: Optional[Buffer] = Non
     Afterwards the first I bytes of work are the outer kept bits before interleaving; what lies behind, there and in out, is as it was.
     """
     sizes = _loaded().sccc_format(_number(format))
-    given = _view("block", block)
-    workspace = _view("work", bytearray(sizes.i) if work is None else work, writable=True)
-    codeword = _view("out", bytearray(sizes.n) if out is None else out, writable=True)
+    given, workspace, codeword = _encode_views(sizes, block, work, out)
     _pass(_loaded().sccc_encode(_number(format), *_lent(given, workspace, codeword, written=2)))
     return codeword[: sizes.n]
+
+
+def encode_segments(
+    format: SupportsIndex,
+    block: Buffer,
+    outer_cuts: Iterable[SupportsIndex] = (),
+    inner_cuts: Iterable[SupportsIndex] = (),
+    *,
+    work: Optional[Buffer] = None,
+    out: Optional[Buffer] = None,
+) -> Segments:
+    """The codeword of an information block, encoded by segments (section 6), and their states: the outer cuts part the block, the
+    inner ones the interleaved bits. n cuts make n + 1 segments, and equal cuts an empty one; each tuple has n + 1 states.
+
+    Checks: 1 to 5, as encode; 12, each list has at most fifteen cuts; 13, no cut is below the one before it, none of the outer ones
+    above K, and none of the inner ones above I. What out and work hold afterwards is what encode leaves there.
+    """
+    sizes = _loaded().sccc_format(_number(format))
+    given, workspace, codeword = _encode_views(sizes, block, work, out)
+    outer, inner = _cuts(outer_cuts), _cuts(inner_cuts)
+    lent = _lent(given, workspace, codeword, written=2) + _lent(outer, inner)
+    r = _loaded().sccc_encode_segments(_number(format), *lent)
+    _pass(r.number)
+    return Segments(codeword[: sizes.n], _states(r.outer, len(outer) + 1), _states(r.inner, len(inner) + 1))
 
 
 def labels(format: SupportsIndex, codeword: Buffer, *, out: Optional[Buffer] = None) -> memoryview:
@@ -334,6 +376,14 @@ class _Interleaved(ctypes.Structure):
     _fields_ = [(name, ctypes.c_uint64) for name in ("number", "position")]
 
 
+class _SegmentStates(ctypes.Structure):
+    _fields_ = [(name, ctypes.c_uint8 * SEGMENTS) for name in ("ended", "started")]
+
+
+class _SegmentsAnswer(ctypes.Structure):
+    _fields_ = [("number", ctypes.c_uint64), ("outer", _SegmentStates), ("inner", _SegmentStates)]
+
+
 class _SectionRange(ctypes.Structure):
     _fields_ = [(name, ctypes.c_uint64) for name in ("number", "start", "length")]
 
@@ -366,6 +416,7 @@ _PROTOTYPES = {
     "sccc_run": (_RunAnswer, _NUMBER + _SLICE + _SLICE),
     "sccc_interleave": (_Interleaved, _NUMBER + _NUMBER),
     "sccc_encode": (ctypes.c_uint8, _NUMBER + _SLICE + _SLICE + _SLICE),
+    "sccc_encode_segments": (_SegmentsAnswer, _NUMBER + _SLICE + _SLICE + _SLICE + _SLICE + _SLICE),
     "sccc_labels": (ctypes.c_uint8, _NUMBER + _SLICE + _SLICE),
     "sccc_frame": (ctypes.c_uint8, _NUMBER + _SLICE + _SLICE),
     "sccc_section": (_SectionRange, _SLICE + _NUMBER),
@@ -397,6 +448,25 @@ def _number(value: SupportsIndex) -> int:
     number itself; ctypes would cut it to another."""
     number = operator.index(value)
     return number if 0 <= number < 2**64 else 2**64 - 1
+
+
+def _encode_views(sizes: _FormatInfo, block: Buffer, work: Optional[Buffer], out: Optional[Buffer]) -> List[memoryview]:
+    """The block, the workspace and the output of a call that encodes."""
+    return [
+        _view("block", block),
+        _view("work", bytearray(sizes.i) if work is None else work, writable=True),
+        _view("out", bytearray(sizes.n) if out is None else out, writable=True),
+    ]
+
+
+def _cuts(values: Iterable[SupportsIndex]) -> memoryview:
+    """Cuts as numbers of 16 bits. One that has no place there becomes the largest that has, which is no cut of any input either."""
+    numbers = [operator.index(value) for value in values]
+    return _view("cuts", array("H", [number if 0 <= number < 2**16 else 2**16 - 1 for number in numbers]), kind="H")
+
+
+def _states(states: _SegmentStates, segments: int) -> SegmentStates:
+    return SegmentStates(tuple(states.ended[:segments]), tuple(states.started[:segments]))
 
 
 _KINDS = {"B": ("B", "b", "c", "?"), "H": ("H",)}

@@ -342,6 +342,190 @@ static void encode(void)
     ENCODE(SCCC_BAD_ELEMENT, 1, 5758, 8640, 16200);
 }
 
+/* A list of cuts, and ways to make one. */
+typedef struct {
+    size_t length;
+    uint16_t places[300];
+} cut_list;
+
+static cut_list cuts_of(size_t count, const uint16_t *places)
+{
+    cut_list list = {count, {0}};
+    memcpy(list.places, places, count * sizeof *places);
+    return list;
+}
+
+static cut_list cuts_from(uint64_t first, uint64_t step, size_t count)
+{
+    cut_list list = {count, {0}};
+    size_t j;
+    for (j = 0; j < count; j++)
+        list.places[j] = (uint16_t)(first + j * step);
+    return list;
+}
+
+#define NO_CUTS cuts_from(0, 0, 0)
+#define CUTS(...)                                                                                  \
+    cuts_of(LENGTH(((const uint16_t[]){__VA_ARGS__})), (const uint16_t[]){__VA_ARGS__})
+
+static uint8_t next_state(uint8_t state, uint8_t bit)
+{
+    const unsigned x0 = state / 2, x1 = state % 2;
+    return (uint8_t)(2 * x1 + (x0 ^ x1 ^ bit));
+}
+
+/* The segments' states by their definition: a run from zero over each, and the plain run. */
+static sccc_segment_states states_of(const uint8_t *bits, size_t length, const cut_list *cuts)
+{
+    sccc_segment_states s;
+    uint8_t plain = 0;
+    size_t i = 0, j;
+    memset(&s, 0, sizeof s);
+    for (j = 0; j <= cuts->length; j++) {
+        const size_t end = j < cuts->length ? cuts->places[j] : length;
+        s.started[j] = plain;
+        for (; i < end; i++) {
+            s.ended[j] = next_state(s.ended[j], bits[i]);
+            plain = next_state(plain, bits[i]);
+        }
+    }
+    return s;
+}
+
+/* What the inner trellis reads of the outer kept bits. */
+static const uint8_t *interleaved(uint64_t f, const uint8_t *kept)
+{
+    static uint64_t positions[SCCC_MAX_I], positions_of;
+    static uint8_t read[SCCC_MAX_I];
+    const uint64_t i = sccc_format(f).i;
+    uint64_t p;
+    for (p = 0; p < i && positions_of != f; p++)
+        positions[p] = sccc_interleave(f, p).position;
+    positions_of = f;
+    for (p = 0; p < i; p++)
+        read[p] = kept[positions[p]];
+    return read;
+}
+
+/* A call by segments on the block and on filled memory: its answer, and that it leaves every byte
+ * as sccc_encode does, or as it was. */
+static void segments_give(int line, uint64_t number, uint64_t f, size_t block_len, size_t work_len,
+                          size_t out_len, cut_list outer, cut_list inner)
+{
+    static uint8_t before[sizeof block], plain_work[sizeof work], plain_out[sizeof codeword];
+    const cut_list outer_before = outer, inner_before = inner;
+    sccc_segments_answer r, due;
+    memset(&due, 0, sizeof due);
+    memcpy(before, block, sizeof block);
+    fill(work, sizeof work);
+    fill(codeword, sizeof codeword);
+    fill(plain_work, sizeof plain_work);
+    fill(plain_out, sizeof plain_out);
+    r = sccc_encode_segments(f, lent(block, block_len), block_len, lent_out(work, work_len),
+                             work_len, lent_out(codeword, out_len), out_len,
+                             outer.length == 0 ? NULL : outer.places, outer.length,
+                             inner.length == 0 ? NULL : inner.places, inner.length);
+    if (number == SCCC_PASSED) {
+        sccc_encode(f, block, block_len, plain_work, work_len, plain_out, out_len);
+        due.outer = states_of(block, block_len, &outer);
+        due.inner = states_of(interleaved(f, plain_work), sccc_format(f).i, &inner);
+    }
+    check(line, r.number == number, "the number of sccc_encode_segments");
+    check(line, memcmp(&r.outer, &due.outer, sizeof r.outer) == 0, "the outer states");
+    check(line, memcmp(&r.inner, &due.inner, sizeof r.inner) == 0, "the inner states");
+    check(line, memcmp(work, plain_work, sizeof work) == 0, "work is as sccc_encode leaves it");
+    check(line, memcmp(codeword, plain_out, sizeof codeword) == 0,
+          "out is as sccc_encode leaves it");
+    check(line, memcmp(block, before, sizeof block) == 0, "the block is unchanged");
+    check(line, memcmp(&outer, &outer_before, sizeof outer) == 0, "the outer cuts are unchanged");
+    check(line, memcmp(&inner, &inner_before, sizeof inner) == 0, "the inner cuts are unchanged");
+}
+
+#define SEGMENTS(number, f, block_len, work_len, out_len, outer, inner)                            \
+    segments_give(__LINE__, number, f, block_len, work_len, out_len, outer, inner)
+
+/* Each format: good cuts, and each way in which a list can be wrong. */
+static void segments_of_format(uint64_t f)
+{
+    const sccc_format_info r = sccc_format(f);
+    const size_t k = r.k, i = r.i, n = r.n;
+    SEGMENTS(SCCC_PASSED, f, k, i, n, NO_CUTS, NO_CUTS);
+    SEGMENTS(SCCC_PASSED, f, k, i, n, cuts_from(k / 16, k / 16, 15), cuts_from(i / 16, i / 16, 15));
+    SEGMENTS(SCCC_PASSED, f, k, sizeof work, sizeof codeword, CUTS(k / 2), NO_CUTS);
+    SEGMENTS(SCCC_PASSED, f, k, i, n, NO_CUTS, CUTS(i / 3, i / 2, i / 2, k + 1, i - 1));
+    SEGMENTS(SCCC_PASSED, f, k, i, n, cuts_from(0, 0, 15), cuts_from(i, 0, 15));
+    SEGMENTS(SCCC_PASSED, f, k, i, n, cuts_from(k, 0, 15), cuts_from(0, 0, 15));
+    SEGMENTS(SCCC_PASSED, f, k, i, n, cuts_from(k / 3, 0, 14), cuts_from(0, 1, 15));
+    SEGMENTS(SCCC_PASSED, f, k, i, n, cuts_from(k - 14, 1, 15), CUTS(0, 0, 1, 1, i, i));
+    SEGMENTS(SCCC_TOO_MANY_CUTS, f, k, i, n, cuts_from(0, 0, 16), NO_CUTS);
+    SEGMENTS(SCCC_TOO_MANY_CUTS, f, k, i, n, NO_CUTS, cuts_from(1, 1, 16));
+    SEGMENTS(SCCC_BAD_CUT, f, k, i, n, CUTS(k + 1), NO_CUTS);
+    SEGMENTS(SCCC_BAD_CUT, f, k, i, n, NO_CUTS, CUTS(0, i + 1));
+    SEGMENTS(SCCC_BAD_CUT, f, k, i, n, CUTS(k, k - 1), CUTS(k + 1));
+    SEGMENTS(SCCC_BAD_CUT, f, k, i, n, CUTS(k), CUTS(i, i, i - 1));
+}
+
+/* Of several things that are wrong the first is answered: what comes after it fails too. */
+static void segments_refused(void)
+{
+    const cut_list falls = CUTS(1, 0), many = cuts_from(0, 0, 16);
+    size_t j;
+    for (j = 0; j < LENGTH(not_formats); j++) {
+        SEGMENTS(SCCC_BAD_FORMAT, not_formats[j], 5758, 8640, 16200, NO_CUTS, NO_CUTS);
+        SEGMENTS(SCCC_BAD_FORMAT, not_formats[j], 0, 0, 0, falls, many);
+    }
+    block[5757] = 2;
+    SEGMENTS(SCCC_BAD_LENGTH, 1, 0, 0, 0, many, falls);
+    SEGMENTS(SCCC_BAD_LENGTH, 1, 5759, 0, 0, many, falls);
+    SEGMENTS(SCCC_BAD_ELEMENT, 1, 5758, 0, 0, falls, many);
+    block[5757] = 1;
+    SEGMENTS(SCCC_SHORT_WORKSPACE, 1, 5758, 8639, 16199, many, falls);
+    SEGMENTS(SCCC_SHORT_OUTPUT, 1, 5758, 8640, 16199, falls, many);
+    SEGMENTS(SCCC_SHORT_OUTPUT, 1, 5758, 8640, 0, CUTS(5759), NO_CUTS);
+    SEGMENTS(SCCC_TOO_MANY_CUTS, 1, 5758, 8640, 16200, falls, many);
+    SEGMENTS(SCCC_TOO_MANY_CUTS, 1, 5758, 8640, 16200, many, falls);
+    SEGMENTS(SCCC_TOO_MANY_CUTS, 1, 5758, 8640, 16200, cuts_from(65535, 0, 16), NO_CUTS);
+    SEGMENTS(SCCC_TOO_MANY_CUTS, 1, 5758, 8640, 16200, NO_CUTS, cuts_from(16, UINT64_MAX, 16));
+    SEGMENTS(SCCC_BAD_CUT, 1, 5758, 8640, 16200, falls, falls);
+}
+
+static void encode_segments(void)
+{
+    static const size_t many[] = {16, 17, 255, 256, 271, 300};
+    static const uint8_t ended[SCCC_SEGMENTS] = {1}, started[SCCC_SEGMENTS] = {0, 1, 3, 2, 1, 3};
+    const cut_list cuts = cuts_from(1, 1, 5);
+    sccc_segments_answer r;
+    uint64_t f;
+    size_t j;
+    CHECK(sizeof(sccc_segment_states) == 2 * SCCC_SEGMENTS);
+    CHECK(sizeof(sccc_segments_answer) == sizeof(uint64_t) + 4 * SCCC_SEGMENTS);
+    for (j = 0; j < sizeof block; j++)
+        block[j] = (uint8_t)(j * j / 7 % 2);
+    for (f = 1; f <= SCCC_FORMATS; f++)
+        segments_of_format(f);
+    for (j = 0; j < LENGTH(many); j++) {
+        SEGMENTS(SCCC_TOO_MANY_CUTS, 1, 5758, 8640, 16200, cuts_from(0, 1, many[j]), NO_CUTS);
+        SEGMENTS(SCCC_TOO_MANY_CUTS, 1, 5758, 8640, 16200, NO_CUTS, cuts_from(0, 1, many[j]));
+    }
+    for (j = 0; j < 15; j++) {
+        cut_list bad = cuts_from(100, 100, 15);
+        bad.places[j] = (uint16_t)(100 * j - 1); /* below the one before; the first is 65,535 */
+        SEGMENTS(SCCC_BAD_CUT, 1, 5758, 8640, 16200, bad, NO_CUTS);
+        SEGMENTS(SCCC_BAD_CUT, 1, 5758, 8640, 16200, NO_CUTS, bad);
+    }
+    segments_refused();
+    /* one list for both trellises */
+    r = sccc_encode_segments(1, block, 5758, work, 8640, codeword, 16200, cuts.places, 5,
+                             cuts.places, 5);
+    CHECK(r.number == SCCC_PASSED);
+    /* a one and then zeros: the powers of A, by equation 6-7 */
+    memset(block, 0, sizeof block);
+    block[0] = 1;
+    r = sccc_encode_segments(1, block, 5758, work, 8640, codeword, 16200, cuts.places, 5, NULL, 0);
+    CHECK(memcmp(r.outer.ended, ended, sizeof ended) == 0);
+    CHECK(memcmp(r.outer.started, started, sizeof started) == 0);
+}
+
 /* A labels call on the codeword and on filled memory, to the front of `others`. */
 static void labels_gives(int line, uint8_t number, uint64_t f, size_t codeword_len, size_t out_len)
 {
@@ -921,6 +1105,7 @@ static void threads(void)
 /* Each call once, for the stack that it takes. */
 static void *call_each(void *argument)
 {
+    static const uint16_t cuts[SCCC_SEGMENTS - 1] = {0};
     job *j = argument;
     sccc_format_info r = sccc_format(j->f);
     sccc_slicer s;
@@ -928,6 +1113,8 @@ static void *call_each(void *argument)
     sccc_run(0, j->block, r.i / 2, j->work, r.i);
     sccc_interleave(j->f, 1);
     sccc_encode(j->f, j->block, r.k, j->work, r.i, j->once, r.n);
+    sccc_encode_segments(j->f, j->block, r.k, j->work, r.i, j->once, r.n, cuts, LENGTH(cuts), cuts,
+                         LENGTH(cuts));
     sccc_labels(j->f, j->once, r.n, others, SCCC_SYMBOLS);
     sccc_frame(j->f, labels, SCCC_FRAME_LABELS, slots, SCCC_FRAME_SLOTS);
     sccc_section(labels, SCCC_FRAME_LABELS, 1);
@@ -974,6 +1161,7 @@ int main(void)
         {"sccc_run", run},
         {"sccc_interleave", interleave},
         {"sccc_encode", encode},
+        {"sccc_encode_segments", encode_segments},
         {"sccc_labels", label_lists},
         {"sccc_frame", frame},
         {"sccc_section", section},

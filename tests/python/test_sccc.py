@@ -55,6 +55,12 @@ def marked(frame):
     return bytes(map(int, f"{0x1ACFFC1D:032b}")) + bytes(bit ^ sequence[i % 255] for i, bit in enumerate(bits))
 
 
+def segment_states(bits, cuts):
+    """By their definition: a run from zero over each segment, and the plain run up to it."""
+    ends = [sccc.run(0, bits[start:end]).state for start, end in zip([0, *cuts], [*cuts, len(bits)])]
+    return tuple(ends), tuple(sccc.run(0, bits[:start]).state for start in [0, *cuts])
+
+
 def filled(length):
     """Memory before a call: no element that a call would write there."""
     return bytearray(64 + i % 191 for i in range(length))
@@ -89,6 +95,7 @@ class Numbers(Case):
             self.assertRefused(1, sccc.interleave, f, 0)
             self.assertRefused(1, sccc.interleave, f, -1)
             self.assertRefused(1, sccc.encode, f, b"")
+            self.assertRefused(1, sccc.encode_segments, f, b"", [1, 0], [0] * 16)
             self.assertRefused(1, sccc.labels, f, b"")
             self.assertRefused(1, sccc.frame, f, b"")
             self.assertRefused(1, sccc.compare, f, b"", b"")
@@ -222,6 +229,81 @@ class Blocks(Case):
         self.assertRefused(2, sccc.encode, 1, b"")
         self.assertRefused(4, sccc.encode, 1, good, work=bytearray(8639))
         self.assertRefused(5, sccc.encode, 1, good, out=bytearray(16199))
+
+    def test_segments(self):
+        for f in (1, 13, 27):
+            info = sccc.format_info(f)
+            block, work = seeded(f, info.k), bytearray(info.i)
+            codeword = sccc.encode(f, block, work=work)
+            read = bytes(work[sccc.interleave(f, i)] for i in range(info.i))
+            for outer, inner in (
+                ((), ()),
+                ([info.k * j // 16 for j in range(1, 16)], [info.i * j // 12 for j in range(1, 12)]),
+                ([0] * 15, [info.i] * 15),
+                ([1, 1, info.k // 2, info.k], range(15)),
+            ):
+                mine = bytearray(info.i)
+                found = sccc.encode_segments(f, block, outer, inner, work=mine)
+                self.assertEqual(found, (codeword, segment_states(block, outer), segment_states(read, inner)))
+                self.assertEqual(mine, work)
+
+    def test_segments_of_a_one(self):
+        """A one and then zeros: the powers of A, by equation 6-7."""
+        found = sccc.encode_segments(1, b"\1" + bytes(5757), [1, 2, 3, 4, 5])
+        self.assertEqual((type(found), type(found.outer)), (sccc.Segments, sccc.SegmentStates))
+        self.assertEqual(found.outer, ((1, 0, 0, 0, 0, 0), (0, 1, 3, 2, 1, 3)))
+        self.assertEqual((len(found.inner.ended), found.inner.started), (1, (0,)))
+
+    def test_segments_write_no_more_than_encode(self):
+        block = seeded(7, 5758)
+        outer = bytearray(8640)
+        codeword = sccc.encode(1, block, work=outer)
+        work, out = filled(8645), filled(16205)
+        found = sccc.encode_segments(1, block, [100], [100, 8640], work=work, out=out)
+        self.assertEqual((found.codeword, len(found.outer.ended), len(found.inner.ended)), (codeword, 2, 3))
+        self.assertEqual(work, outer + filled(8645)[8640:])
+        self.assertEqual(out, bytes(codeword) + filled(16205)[16200:])
+        self.assertIs(found.codeword.obj, out)
+
+    def test_segments_refusals(self):
+        good, bad = bytes(5758), bytes(5757) + b"\2"
+        many, falls = [0] * 16, [2, 1]
+        for number, block, work, out, outer, inner in (
+            (2, bad[1:], 0, 0, many, falls),
+            (3, bad, 0, 0, many, falls),
+            (4, good, 8639, 0, many, falls),
+            (5, good, 8640, 16199, many, falls),
+            (5, good, 8640, 16199, (), [8641]),
+            (12, good, 8640, 16200, many, falls),
+            (12, good, 8640, 16200, falls, many),
+            (12, good, 8640, 16200, (), range(16, 0, -1)),
+            (12, good, 8640, 16200, [0] * 271, ()),
+            (13, good, 8640, 16200, falls, ()),
+            (13, good, 8640, 16200, (), falls),
+            (13, good, 8640, 16200, [5759], ()),
+            (13, good, 8640, 16200, (), [5759, 8641]),
+            (13, good, 8640, 16200, (), [65535]),
+        ):
+            w, o = filled(work), filled(out)
+            self.assertRefused(number, sccc.encode_segments, 1, block, outer, inner, work=w, out=o)
+            self.assertEqual((w, o), (filled(work), filled(out)))
+        for n in (-1, 65536, 65537, *NOT_SMALL[1:]):
+            self.assertRefused(13, sccc.encode_segments, 1, good, [n])
+            self.assertRefused(13, sccc.encode_segments, 1, good, [], [1, n])
+
+    def test_cuts_are_integers_in_any_list(self):
+        block = seeded(7, 5758)
+        found = sccc.encode_segments(1, block, [1, 2], [256, 8640])
+        for outer, inner in (
+            ((1, 2), array("H", [256, 8640])),
+            (iter([1, 2]), range(256, 8641, 8384)),
+            (b"\1\2", numpy.array([256, 8640], dtype=numpy.uint16)),
+            (numpy.array([1, 2]), numpy.array([[256, 0], [8640, 0]])[:, 0]),
+        ):
+            self.assertEqual(sccc.encode_segments(1, block, outer, inner), found)
+        for cuts in ([1.0], ["1"], "1", [None], None, 1, numpy.array([1.0])):
+            self.assertRaises(TypeError, sccc.encode_segments, 1, block, cuts)
+            self.assertRaises(TypeError, sccc.encode_segments, 1, block, [], cuts)
 
     def test_labels(self):
         for f in range(1, sccc.FORMATS + 1):
@@ -501,6 +583,8 @@ class Memory(Case):
             lambda: sccc.encode(1, self.block, work=bytes(8640)),
             lambda: sccc.encode(1, self.block, out=bytes(16200)),
             lambda: sccc.encode(1, self.block, out=array("H", bytes(32400))),
+            lambda: sccc.encode_segments(1, "0" * 5758),
+            lambda: sccc.encode_segments(1, self.block, work=bytes(8640)),
             lambda: sccc.labels(1, bytes(16200), out=memoryview(bytearray(16200))[::2]),
             lambda: sccc.frame(1, out),
             lambda: sccc.frame(1, labels, out=bytearray(2 * sccc.FRAME_SLOTS)),
@@ -518,6 +602,7 @@ class Memory(Case):
             (memory[:5758], memory[10000:20000], memory[19999:50000]),
         ):
             self.assertRaises(ValueError, sccc.encode, 1, block, work=work, out=out)
+            self.assertRaises(ValueError, sccc.encode_segments, 1, block, work=work, out=out)
         self.assertEqual(bytes(memory), bytes(100000))
         sccc.encode(1, memory[:5758], work=memory[5758:14398], out=memory[14398:30598])
 

@@ -44,6 +44,24 @@ pub struct Interleaved {
     pub position: u64,
 }
 
+/// Of each segment of a trellis' input: the state in which its run from zero
+/// ends, and its true starting state.
+#[repr(C)]
+#[derive(Clone, Copy, Debug, Default, PartialEq, Eq)]
+pub struct SegmentStates {
+    pub ended: [u8; 16],
+    pub started: [u8; 16],
+}
+
+/// What `sccc_encode_segments` gives.
+#[repr(C)]
+#[derive(Clone, Copy, Debug, PartialEq, Eq)]
+pub struct SegmentsAnswer {
+    pub number: u64,
+    pub outer: SegmentStates,
+    pub inner: SegmentStates,
+}
+
 /// What `sccc_section` gives: where the section stands in the caller's labels.
 #[repr(C)]
 #[derive(Clone, Copy, Debug, PartialEq, Eq)]
@@ -118,6 +136,19 @@ extern "C" {
         out: *mut u8,
         out_len: usize,
     ) -> u8;
+    fn sccc_encode_segments(
+        format: u64,
+        block: *const u8,
+        block_len: usize,
+        work: *mut u8,
+        work_len: usize,
+        out: *mut u8,
+        out_len: usize,
+        outer_cuts: *const u16,
+        outer_len: usize,
+        inner_cuts: *const u16,
+        inner_len: usize,
+    ) -> SegmentsAnswer;
     fn sccc_labels(
         format: u64,
         codeword: *const u8,
@@ -214,6 +245,32 @@ pub fn encode(format: u64, block: &[u8], work: &mut [u8], out: &mut [u8]) -> u8 
             work.len(),
             pointer_mut(out),
             out.len(),
+        )
+    }
+}
+
+pub fn encode_segments(
+    format: u64,
+    block: &[u8],
+    work: &mut [u8],
+    out: &mut [u8],
+    outer_cuts: &[u16],
+    inner_cuts: &[u16],
+) -> SegmentsAnswer {
+    // SAFETY: as in encode.
+    unsafe {
+        sccc_encode_segments(
+            format,
+            pointer(block),
+            block.len(),
+            pointer_mut(work),
+            work.len(),
+            pointer_mut(out),
+            out.len(),
+            pointer(outer_cuts),
+            outer_cuts.len(),
+            pointer(inner_cuts),
+            inner_cuts.len(),
         )
     }
 }

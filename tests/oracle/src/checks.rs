@@ -3,6 +3,7 @@
 //! first check that fails, 0 if none does.
 
 use crate::framing::{FRAME_LABELS, FRAME_SLOTS, SECTIONS};
+use crate::segments::MOST_CUTS;
 use crate::slicer::{Slicer, MEMORY};
 use crate::tables::{self, SECTION};
 use crate::transfer::{LEAST_OCTETS, MOST_OCTETS};
@@ -31,6 +32,10 @@ pub const FRAME_LENGTH: u64 = 9;
 pub const CHANNEL_LENGTH: u64 = 10;
 /// K or more bits still wait.
 pub const BLOCK_WAITS: u64 = 11;
+/// A list has more than fifteen cuts.
+pub const CUT_COUNT: u64 = 12;
+/// A cut falls, or lies beyond the input.
+pub const CUT_PLACE: u64 = 13;
 
 /// The number of the first check that does not hold.
 fn first_failed(checks: &[(u64, bool)]) -> u64 {
@@ -57,6 +62,38 @@ pub fn encode(format: u64, block: &[u8], work_len: usize, out_len: usize) -> u64
         (WORKSPACE, work_len >= f.I),
         (OUTPUT, out_len >= f.N),
     ])
+}
+
+/// Encoding a block by segments: what encoding asks, and then of both lists of
+/// cuts how many there are, and where.
+pub fn encode_segments(
+    format: u64,
+    block: &[u8],
+    work_len: usize,
+    out_len: usize,
+    [outer, inner]: [&[u16]; 2],
+) -> u64 {
+    let Some(f) = tables::format(format) else {
+        return FORMAT;
+    };
+    let number = encode(format, block, work_len, out_len);
+    let few = few_cuts(outer) && few_cuts(inner);
+    let inside = cuts_inside(outer, f.K) && cuts_inside(inner, f.I);
+    first_failed(&[
+        (number, number == PASSED),
+        (CUT_COUNT, few),
+        (CUT_PLACE, inside),
+    ])
+}
+
+pub fn few_cuts(cuts: &[u16]) -> bool {
+    cuts.len() <= MOST_CUTS
+}
+
+/// Whether no cut falls, and none lies beyond so many bits.
+pub fn cuts_inside(cuts: &[u16], length: usize) -> bool {
+    let rise = cuts.windows(2).all(|pair| pair[0] <= pair[1]);
+    rise && cuts.iter().all(|&cut| usize::from(cut) <= length)
 }
 
 /// Arranging a codeword into labels.
@@ -241,6 +278,36 @@ mod tests {
         assert_eq!(encode(1, &[0; K], I, N - 1), OUTPUT);
         assert_eq!(encode(1, &[0; K], I, N), PASSED);
         assert_eq!(encode(1, &[0; K], I, N + 1), PASSED);
+    }
+
+    #[test]
+    fn encode_segments_asks_1_2_3_4_5_12_13() {
+        let many = [0; 16];
+        let falls = [2, 1];
+        let [k, i] = [K as u16, I as u16];
+        let asked = |cuts: [&[u16]; 2]| encode_segments(1, &[1; K], I, N, cuts);
+        // All that comes after fails too, in one list and in the other.
+        for cuts in [[&many[..], &falls], [&falls, &many]] {
+            assert_eq!(encode_segments(257, &[2; 1], 0, 0, cuts), FORMAT);
+            assert_eq!(encode_segments(1, &[2; 1], 0, 0, cuts), LENGTH);
+            assert_eq!(encode_segments(1, &[2; K], 0, 0, cuts), ELEMENT);
+            assert_eq!(encode_segments(1, &[1; K], 0, 0, cuts), WORKSPACE);
+            assert_eq!(encode_segments(1, &[1; K], I, N - 1, cuts), OUTPUT);
+            assert_eq!(asked(cuts), CUT_COUNT);
+        }
+        for list in [&many[..], &[0; 17], &[0; 271], &[u16::MAX; 16]] {
+            assert_eq!(asked([list, &[]]), CUT_COUNT);
+            assert_eq!(asked([&[], list]), CUT_COUNT);
+        }
+        for list in [&falls[..], &[0, 1, 0], &[1, i + 1], &[u16::MAX]] {
+            assert_eq!(asked([list, &[]]), CUT_PLACE);
+            assert_eq!(asked([&[], list]), CUT_PLACE);
+        }
+        assert_eq!(asked([&[k + 1], &[]]), CUT_PLACE);
+        assert_eq!(asked([&[], &[k + 1]]), PASSED);
+        assert_eq!(asked([&[k; 15], &[i; 15]]), PASSED);
+        assert_eq!(asked([&[0, 0, 1, k], &[0; 15]]), PASSED);
+        assert_eq!(asked([&[], &[]]), PASSED);
     }
 
     #[test]

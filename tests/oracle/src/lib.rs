@@ -16,6 +16,7 @@ pub mod digest;
 pub mod encoder;
 pub mod framing;
 pub mod puncturing_search;
+pub mod segments;
 pub mod self_check;
 pub mod slicer;
 pub mod tables;

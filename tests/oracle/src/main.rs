@@ -11,7 +11,7 @@ use oracle::digest::{
 use oracle::encoder::{encode, labels};
 use oracle::slicer::{self, Slicer};
 use oracle::tables::{self, Format};
-use oracle::{annex_d, framing, puncturing_search, self_check, trellis, wrong_rows};
+use oracle::{annex_d, framing, puncturing_search, segments, self_check, trellis, wrong_rows};
 use std::io::Write;
 use std::path::PathBuf;
 use std::process::ExitCode;
@@ -27,6 +27,7 @@ const USAGE: &str = "usage: oracle [--annex-c PATH] COMMAND
   changes              the same after a frame of format 13
   looks                what a look says at that change
   runs                 where a run over a block is halfway, and its digest
+  segments             a block by twelve encoders: its segments' states
   ones FORMAT PATTERN  ones in the codeword of pattern 0, 1 or 2
   annex-d              the spread of each interleaver
   wrong-rows           how often annex D's rule misses a wrong row of annex C
@@ -34,6 +35,9 @@ const USAGE: &str = "usage: oracle [--annex-c PATH] COMMAND
 
 /// Formats with a frame in the listing: one for each modulation.
 const FRAME_FORMATS: [u64; 5] = [1, 7, 13, 18, 27];
+
+/// Section 6's n_enc for encoders of 250 MHz.
+const ENCODERS: usize = 12;
 
 fn main() -> ExitCode {
     let arguments: Vec<String> = std::env::args().skip(1).collect();
@@ -69,6 +73,7 @@ fn command(arguments: &[String]) -> Result<(String, ExitCode), String> {
         ["changes"] => frames(&annex_c()?, changed_blocks)?,
         ["looks"] => looks(),
         ["runs"] => runs()?,
+        ["segments"] => parallel(&annex_c()?)?,
         ["ones", format, pattern] => ones(&annex_c()?, format, pattern)?,
         ["annex-d"] => annex_d::listing(&annex_c()?),
         ["wrong-rows"] => wrong_rows::listing(&annex_c()?),
@@ -144,6 +149,35 @@ fn runs() -> Result<String, String> {
             trellis::state_number(trellis::states(trellis::ZERO, block)[half]),
             digest(&trellis::run(trellis::ZERO, block).written()),
         ));
+    }
+    Ok(text)
+}
+
+/// The first block of a format's frame by encoders in parallel: where each
+/// segment begins, and its states, of the outer trellis and of the inner.
+fn parallel(annex_c: &AnnexC) -> Result<String, String> {
+    let mut text = String::from(
+        "format,segment,outer,outer_ended,outer_started,inner,inner_ended,inner_started\n",
+    );
+    for number in FRAME_FORMATS {
+        let f = tables::format(number).ok_or("no such format")?;
+        let inputs = segments::inputs(annex_c.of_size(f.I), &frame_blocks(&f)[0]);
+        let columns = inputs.map(|u| {
+            let cuts = segments::equal_cuts(u.len(), ENCODERS);
+            (
+                segments::bounds(u.len(), &cuts),
+                segments::states(&u, &cuts),
+            )
+        });
+        for j in 0..ENCODERS {
+            text.push_str(&format!("{number},{j}"));
+            for (bounds, states) in &columns {
+                let [ended, started] =
+                    [states.ended[j], states.started[j]].map(trellis::state_number);
+                text.push_str(&format!(",{},{ended},{started}", bounds[j][0]));
+            }
+            text.push('\n');
+        }
     }
     Ok(text)
 }

@@ -3,9 +3,10 @@
 
 use crate::annex_c::{AnnexC, Interleaver};
 use crate::annex_d;
-use crate::digest::vector_blocks;
+use crate::digest::{seeded_block, vector_blocks};
 use crate::encoder::{self, PERIOD};
 use crate::framing;
+use crate::segments::{self, equal_cuts, MOST_CUTS};
 use crate::tables::{self, Format, M, SECTION};
 use crate::transfer;
 use crate::trellis::{self, run, terminating_bits, ZERO};
@@ -75,6 +76,7 @@ pub fn self_check(annex_c: &AnnexC) -> Report {
     spread(&mut report, annex_c);
     kept_bits(&mut report, annex_c);
     seeded_blocks(&mut report, annex_c);
+    starting_states(&mut report, annex_c);
     report
 }
 
@@ -269,6 +271,39 @@ fn seeded_blocks(report: &mut Report, annex_c: &AnnexC) {
         let blocks = seeded(f);
         let (a, b) = (&blocks[0], &blocks[1]);
         encode(f, &framing::sum(a, b)) == framing::sum(&encode(f, a), &encode(f, b))
+    });
+}
+
+/// Lists of cuts of so many bits: equal segments, and empty and short ones at
+/// both ends and between.
+fn cut_lists(length: usize) -> Vec<Vec<u16>> {
+    let last = length as u16;
+    let half = last / 2;
+    let most = MOST_CUTS as u16;
+    let mut lists: Vec<Vec<u16>> = (1..=MOST_CUTS + 1).map(|n| equal_cuts(length, n)).collect();
+    lists.extend([
+        vec![0; MOST_CUTS],
+        vec![last; MOST_CUTS],
+        (1..=most).collect(),
+        (0..most).map(|j| last - most + j).collect(),
+        vec![0, 1, 1, 3, half, half, half + 2, last - 1, last],
+    ]);
+    lists
+}
+
+/// Section 6's way to the starting states, against those of the plain run.
+fn starting_states(report: &mut Report, annex_c: &AnnexC) {
+    let agrees = |u: &[u8], cuts: &[u16]| {
+        let found = segments::states(u, cuts);
+        let bounds = segments::bounds(u.len(), cuts);
+        let end = run(ZERO, u).end;
+        segments::propagated(&bounds, &found.ended) == [found.started, vec![end]].concat()
+    };
+    let what = "6-6, 6-7: the starting states from the ends are the plain run's, both trellises";
+    report.each_format(what, |f| {
+        let block = seeded_block(1000 + f.number, f.K);
+        let inputs = segments::inputs(annex_c.of_size(f.I), &block);
+        (inputs.iter()).all(|u| cut_lists(u.len()).iter().all(|cuts| agrees(u, cuts)))
     });
 }
 

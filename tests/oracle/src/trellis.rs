@@ -13,6 +13,10 @@ const B: [u8; 2] = [0, 1];
 const C: [[u8; 2]; 2] = [[0, 0], [0, 1]];
 const D: [u8; 2] = [1, 1];
 
+/// Equation 6-7: the powers of A from A^0 = A^3 = I on; those after the third
+/// are the same again.
+const POWERS: [[[u8; 2]; 2]; 3] = [[[1, 0], [0, 1]], A, [[1, 1], [1, 0]]];
+
 /// Equation 6-3: matrix times column over GF(2).
 fn product(matrix: [[u8; 2]; 2], column: [u8; 2]) -> [u8; 2] {
     matrix.map(|row| (row[0] * column[0] + row[1] * column[1]) % 2)
@@ -59,6 +63,12 @@ pub fn states(start: State, u: &[u8]) -> Vec<State> {
         x.push(next(x[x.len() - 1], bit));
     }
     x
+}
+
+/// Equation 6-6: the final state of a segment of n bits that starts in x, where
+/// FS is its final state from zero: A^n x + FS.
+pub fn final_state(x: State, n: usize, FS: State) -> State {
+    sum(product(POWERS[n % 3], x), FS)
 }
 
 /// 4.1: the terminating bits drive the trellis to the zero state. Of the four
@@ -131,6 +141,16 @@ mod tests {
             }
         }
         assert_eq!(state_of(4), None);
+    }
+
+    #[test]
+    fn zeros_multiply_the_state_by_a() {
+        for number in 0..4 {
+            let x = state_of(number).unwrap();
+            for (n, &end) in states(x, &[0; 7]).iter().enumerate() {
+                assert_eq!(final_state(x, n, ZERO), end);
+            }
+        }
     }
 
     #[test]

@@ -3,14 +3,14 @@
 use crate::draw::{self, Plan};
 use crate::generator::Generator;
 use crate::lent::Lent;
-use crate::slicer;
 use crate::tally::Met;
-use crate::tally::Outcome::{self, Block, Different, Passed, Refused, Same, Wait};
+use crate::tally::Outcome::{self, Block, Different, Passed, Refused, RefusedFor, Same, Wait};
+use crate::{encoding, slicer};
 use interface::{Comparison, FormatInfo, Interleaved, RunAnswer, SectionRange, Stepped};
 use oracle::annex_c::{AnnexC, UpperPosition};
 use oracle::checks::{
-    self, BLOCK_WAITS, CHANNEL_LENGTH, ELEMENT, FORMAT, FRAME_LENGTH, LENGTH, OUTPUT, PASSED,
-    POSITION, WORKSPACE,
+    self, BLOCK_WAITS, CHANNEL_LENGTH, CUT_COUNT, CUT_PLACE, ELEMENT, FORMAT, FRAME_LENGTH, LENGTH,
+    OUTPUT, PASSED, POSITION, WORKSPACE,
 };
 use oracle::framing::{self, FRAME_LABELS, FRAME_SLOTS, SECTIONS};
 use oracle::tables::{self, Format, SECTION};
@@ -29,7 +29,7 @@ pub struct Call {
     pub compare: fn(&mut Generator, &AnnexC) -> Compared,
 }
 
-pub const CALLS: [Call; 14] = [
+pub const CALLS: [Call; 15] = [
     Call {
         name: "format",
         outcomes: &[Passed, Refused(FORMAT)],
@@ -65,7 +65,26 @@ pub const CALLS: [Call; 14] = [
             Refused(OUTPUT),
         ],
         weight: 6,
-        compare: encode_call,
+        compare: encoding::encode_call,
+    },
+    Call {
+        name: "segments",
+        outcomes: &[
+            Passed,
+            Refused(FORMAT),
+            Refused(LENGTH),
+            Refused(ELEMENT),
+            Refused(WORKSPACE),
+            Refused(OUTPUT),
+            RefusedFor(CUT_COUNT, "outer"),
+            RefusedFor(CUT_COUNT, "inner"),
+            RefusedFor(CUT_COUNT, "both"),
+            RefusedFor(CUT_PLACE, "outer"),
+            RefusedFor(CUT_PLACE, "inner"),
+            RefusedFor(CUT_PLACE, "both"),
+        ],
+        weight: 9,
+        compare: encoding::segments_call,
     },
     Call {
         name: "labels",
@@ -325,45 +344,6 @@ fn interleave_call(generator: &mut Generator, annex_c: &AnnexC) -> Compared {
         format!("format {format}, position {position}"),
         met(number, &f),
         [equal(found, expected)],
-    )
-}
-
-fn encode_call(generator: &mut Generator, annex_c: &AnnexC) -> Compared {
-    let plan = Plan::new(generator, &[FORMAT, LENGTH, ELEMENT, WORKSPACE, OUTPUT]);
-    let f = draw::format(generator);
-    let fails = plan.fails(generator, FORMAT);
-    let format = draw::format_number(generator, &f, fails);
-    let fails = plan.fails(generator, LENGTH);
-    let length = draw::exact_length(generator, &f, |f| f.K, fails);
-    let mut block = draw::list(generator, length, 1);
-    if plan.fails(generator, ELEMENT) {
-        draw::spoil(generator, &mut block, 1);
-    }
-    let fails = plan.fails(generator, WORKSPACE);
-    let work_length = draw::room(generator, f.I, fails);
-    let fails = plan.fails(generator, OUTPUT);
-    let out_length = draw::room(generator, f.N, fails);
-    let block = Lent::new(generator, &block);
-    let mut work = Lent::filled(generator, work_length);
-    let mut out = Lent::filled(generator, out_length);
-
-    let number = checks::encode(format, block.list(), work_length, out_length);
-    let (workspace, codeword) = if number == PASSED {
-        let encoded = encoder::encode(&f, annex_c.of_size(f.I), block.list());
-        (encoded.workspace, encoded.codeword)
-    } else {
-        (vec![], vec![])
-    };
-    let found = interface::encode(format, block.list(), work.list_mut(), out.list_mut());
-    compared(
-        format!("format {format}, block of {length}, workspace of {work_length}, output of {out_length}"),
-        met(number, &f),
-        [
-            equal(u64::from(found), number),
-            block.unchanged("the block"),
-            work.holds("the workspace", &workspace),
-            out.holds("the output", &codeword),
-        ],
     )
 }
 

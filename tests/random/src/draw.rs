@@ -1,6 +1,7 @@
 //! Random arguments, with and without faults.
 
 use crate::generator::Generator;
+use oracle::segments::MOST_CUTS;
 use oracle::tables::{self, Format};
 
 /// Which check a case is meant to fail first. The checks before it are to pass;
@@ -160,6 +161,50 @@ pub fn change(generator: &mut Generator, list: &mut [u8], m: usize) {
     }
 }
 
+/// Cuts of so many bits, none, some or fifteen; or too many, or one of them out
+/// of its place.
+pub fn cuts(generator: &mut Generator, length: usize, many: bool, misplaced: bool) -> Vec<u16> {
+    let some = 1 + generator.below(MOST_CUTS);
+    let more = MOST_CUTS + 1 + generator.below(100);
+    let count = match (many, misplaced) {
+        (true, _) => generator.pick(&[MOST_CUTS + 1, MOST_CUTS + 1, MOST_CUTS + 256, more]),
+        (false, true) => generator.pick(&[some, some, MOST_CUTS]),
+        (false, false) => generator.pick(&[0, some, some, MOST_CUTS]),
+    };
+    let mut cuts: Vec<u16> = (0..count).map(|_| cut(generator, length)).collect();
+    if generator.below(8) == 0 {
+        cuts.fill(cut(generator, length));
+    }
+    cuts.sort_unstable();
+    if misplaced {
+        misplace(generator, &mut cuts, length);
+    }
+    cuts
+}
+
+/// A place from 0 to the end. The ends are likely, so that cuts are equal there.
+fn cut(generator: &mut Generator, length: usize) -> u16 {
+    let any = generator.below(length + 1);
+    generator.pick(&[0, 1, length - 1, length, any, any, any, any]) as u16
+}
+
+/// Lets one cut fall below the one before it, or lie beyond the end. The first,
+/// and one behind a cut at 0, cannot fall.
+fn misplace(generator: &mut Generator, cuts: &mut [u16], length: usize) {
+    let last = cuts.len() - 1;
+    let any = generator.below(cuts.len());
+    let at = generator.pick(&[last.min(1), last, any]);
+    let before = if at == 0 { 0 } else { cuts[at - 1] };
+    cuts[at] = if before > 0 && generator.coin() {
+        let below = generator.below(before.into()) as u16;
+        generator.pick(&[0, before - 1, below])
+    } else {
+        let end = length as u16;
+        let beyond = end + 1 + generator.below((u16::MAX - end).into()) as u16;
+        generator.pick(&[end + 1, u16::MAX, beyond])
+    };
+}
+
 /// Which of two lists have a fault: the first, the second or both; none if
 /// there is no fault.
 pub fn either(generator: &mut Generator, fails: bool) -> [bool; 2] {
@@ -173,6 +218,7 @@ pub fn either(generator: &mut Generator, fails: bool) -> [bool; 2] {
 #[cfg(test)]
 mod tests {
     use super::*;
+    use oracle::checks::{cuts_inside, few_cuts};
 
     /// As in a push, which asks 9 before 2.
     #[test]
@@ -189,5 +235,18 @@ mod tests {
         };
         assert_eq!([fails(1), fails(9)], [0, 64]);
         assert!((1..64).contains(&fails(2)));
+    }
+
+    #[test]
+    fn cuts_are_good_or_have_the_fault() {
+        let mut generator = Generator::of_case(1, 1);
+        for f in tables::formats() {
+            for _ in 0..100 {
+                let [many, misplaced] = [generator.coin(), generator.coin()];
+                let list = cuts(&mut generator, f.I, many, misplaced);
+                assert_eq!(few_cuts(&list), !many);
+                assert_eq!(cuts_inside(&list, f.I), !misplaced);
+            }
+        }
     }
 }

@@ -30,13 +30,17 @@ impl Lent<u8> {
 }
 
 impl Lent<u16> {
-    /// Random slots.
-    pub fn filled_words(generator: &mut Generator, length: usize) -> Lent<u16> {
+    pub fn words(generator: &mut Generator, list: &[u16]) -> Lent<u16> {
         let start = MARGIN + generator.below(8);
         let left = generator.words(start);
-        let list = generator.words(length);
         let right = generator.words(MARGIN);
-        Lent::between(left, &list, right)
+        Lent::between(left, list, right)
+    }
+
+    /// Random slots.
+    pub fn filled_words(generator: &mut Generator, length: usize) -> Lent<u16> {
+        let list = generator.words(length);
+        Lent::words(generator, &list)
     }
 }
 

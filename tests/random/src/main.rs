@@ -4,6 +4,7 @@
 mod calls;
 mod cases;
 mod draw;
+mod encoding;
 mod generator;
 mod lent;
 mod slicer;

@@ -15,6 +15,14 @@ pub enum Outcome {
     Wait,
     /// With the number of the check that failed.
     Refused(u64),
+    /// The same, and which of two lists failed it.
+    RefusedFor(u64, &'static str),
+}
+
+impl Outcome {
+    fn is_refusal(&self) -> bool {
+        matches!(self, Outcome::Refused(_) | Outcome::RefusedFor(..))
+    }
 }
 
 impl Display for Outcome {
@@ -26,6 +34,7 @@ impl Display for Outcome {
             Outcome::Block => write!(f, "block"),
             Outcome::Wait => write!(f, "wait"),
             Outcome::Refused(number) => write!(f, "{number}"),
+            Outcome::RefusedFor(number, list) => write!(f, "{number} {list}"),
         }
     }
 }
@@ -63,7 +72,7 @@ impl Tally {
     /// refused with each number.
     pub fn line(&self, name: &str) -> String {
         let (refused, passed): (Vec<_>, Vec<_>) =
-            (self.outcomes.iter()).partition(|(outcome, _)| matches!(outcome, Outcome::Refused(_)));
+            (self.outcomes.iter()).partition(|(outcome, _)| outcome.is_refusal());
         let mut line = format!(
             "{name:10} {:6} compared: {}; {}",
             self.count(),

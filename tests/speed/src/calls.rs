@@ -1,9 +1,10 @@
 //! The calls that are timed, on both sides, and their arguments.
 
 use crate::plain::{self, Plain};
-use interface::{BlockAnswer, Comparison, RunAnswer, Slicer, SlicerAnswer};
+use interface::{BlockAnswer, Comparison, RunAnswer, SegmentsAnswer, Slicer, SlicerAnswer};
 use oracle::digest::{seeded_block, seeded_frame};
 use oracle::framing::{FRAME_SLOTS, SECTIONS};
+use oracle::segments::{equal_cuts, MOST_CUTS};
 use oracle::slicer::MEMORY;
 use oracle::tables::{Format, SECTION};
 use oracle::transfer::{marked_bits, MOST_OCTETS};
@@ -171,6 +172,9 @@ impl Call {
 pub struct Arguments {
     pub format: Format,
     block: Vec<u8>,
+    /// As many cuts as there may be, evenly spaced.
+    outer_cuts: Vec<u16>,
+    inner_cuts: Vec<u16>,
     codeword: Vec<u8>,
     labels: Vec<u8>,
     equal_labels: Vec<u8>,
@@ -192,6 +196,8 @@ impl Arguments {
         Arguments {
             format: *format,
             block,
+            outer_cuts: equal_cuts(format.K, MOST_CUTS + 1),
+            inner_cuts: equal_cuts(format.I, MOST_CUTS + 1),
             codeword: buffers.codeword,
             frame_labels: buffers.labels.repeat(SECTIONS),
             equal_labels: buffers.labels.clone(),
@@ -281,6 +287,26 @@ pub fn make(call: Call, side: &impl Side, a: &Arguments, b: &mut Buffers) -> Ans
         Call::BlockUsual => block(USUAL, &mut b.waiting, &mut b.block),
         Call::BlockLongest => block(LONGEST, &mut b.waiting, &mut b.block),
     }
+}
+
+/// The library's encoder by segments.
+pub fn make_segments(a: &Arguments, b: &mut Buffers) -> SegmentsAnswer {
+    interface::encode_segments(
+        a.format.number,
+        &a.block,
+        &mut b.work,
+        &mut b.codeword,
+        &a.outer_cuts,
+        &a.inner_cuts,
+    )
+}
+
+/// Whether it passes and writes what encode does.
+pub fn segments_agree(a: &Arguments) -> bool {
+    let mut buffers = [Buffers::new(&a.format), Buffers::new(&a.format)];
+    let number = make_segments(a, &mut buffers[0]).number;
+    make(Call::Encode, &Library, a, &mut buffers[1]);
+    number == 0 && buffers[0] == buffers[1]
 }
 
 /// Whether a call passes and has the same results on both sides.

@@ -1,6 +1,8 @@
-//! Times the library's calls beside a plain encoder's.
+//! Times the library's calls beside a plain encoder's, and its encoder by
+//! segments beside its own encode.
 //!
-//! `speed` prints two tables, `speed calls` and `speed formats` one of them.
+//! `speed` prints three tables, `speed calls`, `speed segments` and `speed
+//! formats` one of them.
 //! `speed --callgrind-call CALL FORMAT N` makes N calls of one kind, for a tool
 //! that counts instructions, and prints how many information bits they took.
 
@@ -20,7 +22,7 @@ use std::time::Duration;
 
 const ANNEX_C: &str = include_str!("../../../data/annex-c.csv");
 
-const USAGE: &str = "usage: speed [calls | formats | --callgrind-call CALL FORMAT N]
+const USAGE: &str = "usage: speed [calls | segments | formats | --callgrind-call CALL FORMAT N]
   CALL is library- or plain-, and then run, encode, labels, frame, compare-same, compare-differ,
   push-1115, push-65536, block-1115 or block-65536";
 
@@ -30,6 +32,9 @@ const FORMATS: [u64; 3] = [1, 13, 27];
 /// How long one pair of calls is timed in the first table, and in the second.
 const BUDGET: Duration = Duration::from_millis(1000);
 const BUDGET_EACH: Duration = Duration::from_millis(400);
+
+/// The ratio of times, by segments and plain, that the library is to stay below.
+const SEGMENTS_AIM: f64 = 2.5;
 
 fn main() -> ExitCode {
     let arguments: Vec<String> = std::env::args().skip(1).collect();
@@ -47,8 +52,11 @@ fn command(arguments: &[String]) -> Result<(), String> {
     let plain = || Plain::new(&annex_c, tables::formats());
     let words: Vec<&str> = arguments.iter().map(String::as_str).collect();
     match words.as_slice() {
-        [] => calls_table(&plain()).and_then(|()| formats_table(&plain())),
+        [] => calls_table(&plain())
+            .and_then(|()| segments_table(&plain()))
+            .and_then(|()| formats_table(&plain())),
         ["calls"] => calls_table(&plain()),
+        ["segments"] => segments_table(&plain()),
         ["formats"] => formats_table(&plain()),
         ["--callgrind-call", call, format, n] => repeat(&annex_c, call, format, n),
         _ => Err(USAGE.into()),
@@ -91,6 +99,48 @@ fn calls_table(plain: &Plain) -> Result<(), String> {
                 call.aim(),
             );
         }
+    }
+    Ok(())
+}
+
+/// The shortest time of encoding a block in nanoseconds, by segments and as
+/// encode does, once their results are seen to agree.
+fn segments_times(f: &Format, plain: &Plain) -> Result<[f64; 2], String> {
+    let a = Arguments::new(plain, f);
+    if !calls::segments_agree(&a) {
+        return Err(format!("encode-segments of format {} differs", f.number));
+    }
+    let mut cut = Buffers::new(f);
+    let mut whole = Buffers::new(f);
+    Ok(side_by_side(
+        BUDGET,
+        || {
+            black_box(calls::make_segments(black_box(&a), &mut cut));
+        },
+        || {
+            black_box(calls::make(
+                Call::Encode,
+                &Library,
+                black_box(&a),
+                &mut whole,
+            ));
+        },
+    ))
+}
+
+/// Encoding by sixteen segments of each trellis beside the library's own
+/// encode, at three formats.
+fn segments_table(plain: &Plain) -> Result<(), String> {
+    println!("\ncall            format  segments    encode  ratio  aim  in ns per");
+    for f in FORMATS.iter().filter_map(|&number| tables::format(number)) {
+        let (unit, units) = Call::Encode.unit(&f);
+        let times = segments_times(&f, plain)?;
+        let [segments, encode] = times.map(|time| time / units as f64);
+        println!(
+            "encode-segments {:6} {segments:9.3} {encode:9.3} {:6.2} {SEGMENTS_AIM:4}  {unit}",
+            f.number,
+            segments / encode,
+        );
     }
     Ok(())
 }
