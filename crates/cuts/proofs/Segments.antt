@@ -16,7 +16,7 @@ use Rattle.bits.proofs.Legal.{legal-at, legal-append, legal-head, legal-tail}
 use Rattle.bits.proofs.Lists.{drop-next}
 use Rattle.bits.proofs.Table.{left-true, right-true}
 use Rattle.trellis.specs.Trellis.{State, zero-state, stateNumber, stateOf}
-use Rattle.cuts.specs.Cuts.{stops, between, segmentsFrom, segments, endState, endStates, startStates, mostCuts, mostSegments, isFew, risesFrom, isInside, Cuts, padded, statesOf}
+use Rattle.cuts.specs.Cuts.{stops, between, segmentsFrom, segments, endState, endStates, startStates, mostCuts, mostSegments, risesFrom, isInside, Cuts, padded, statesOf}
 use Rattle.cuts.specs.declared.States.{States}
 use Rattle.cuts.specs.Propagation.{following, workedFrom, workedOut}
 use Rattle.cuts.proofs.Propagations.{worked-out}

@@ -1,6 +1,6 @@
 // Lists of cuts, which part the input of a trellis into segments (6), and the states of the segments.
 ghost use mathlib.Core.Path.{_≡_};
-ghost use Rattle.cuts.specs.Cuts.{isFew, isInside, noStates};
+ghost use Rattle.cuts.specs.Cuts.{isFew, isInside};
 
 pub mod steps;
 
@@ -12,16 +12,6 @@ pub const SEGMENTS: usize = 16;
 pub struct States {
     pub ended: [u8; SEGMENTS],
     pub started: [u8; SEGMENTS],
-}
-
-// The states of a refusal.
-pub fn no_states() -> States
-    ensures { λ r. ⌜ r ≡ noStates ⌝ }
-{
-    States {
-        ended: [0u8; SEGMENTS],
-        started: [0u8; SEGMENTS],
-    }
 }
 
 // Whether there are at most fifteen cuts.

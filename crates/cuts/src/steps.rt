@@ -1,12 +1,13 @@
-// Opened to the two segmented trellises alone: where a segment ends, and the starting states.
+// Opened to the segmented encoder alone: where a segment ends, and the starting states.
 ghost use mathlib.Core.Path.{_≡_};
 ghost use mathlib.Core.Bool.{true};
 ghost use Prim.Native.Nat.{_≤_, _<_};
 ghost use lib.ListN.{length, getD};
 ghost use Rattle.trellis.specs.Trellis.{stateNumber, stateOf};
-ghost use Rattle.cuts.specs.Cuts.{isFew, risesFrom, padded};
+ghost use Rattle.cuts.specs.Cuts.{isFew, risesFrom, padded, noStates};
 ghost use Rattle.cuts.specs.Propagation.{propagated, following, workedOut};
 use crate::SEGMENTS;
+use crate::States;
 
 // Where segment j of an input of so many bits ends: at its cut, or where the input does.
 pub fn stop(cuts: &[u16], j: usize, long: usize) -> usize
@@ -64,4 +65,14 @@ fn propagate(state: u8, n: usize) -> u8
         return 2 * x1 + sum;
     }
     2 * sum + x0
+}
+
+// The states of a refusal.
+pub fn no_states() -> States
+    ensures { λ r. ⌜ r ≡ noStates ⌝ }
+{
+    States {
+        ended: [0u8; SEGMENTS],
+        started: [0u8; SEGMENTS],
+    }
 }

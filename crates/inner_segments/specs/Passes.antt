@@ -1,6 +1,5 @@
 -- The second pass over the inner trellis: where a segment begins, the trellis is set to the segment's own starting state.
 use Prim.Native.Nat.{ℕ, _/_, _%_}
-use Rattle.coder.specs.declared.steps.Coder.{Coder}
 use Rattle.inner.specs.declared.steps.Progress.{Progress}
 
 -- the inner encoder where it stands, but with its trellis in the state with the number s

@@ -87,7 +87,7 @@ fn passes(
     States { ended, started }
 }
 
-// The first pass: every segment from 00. Where each run ends.
+// The first pass: every segment from 00. Where each run ends. The walk over the positions goes on from segment to segment, the state does not.
 fn first(
     alpha: &[u16],
     beta: &[u8],
@@ -101,13 +101,13 @@ fn first(
     ensures { λ r. ⌜ r ≡ padded (endStates (now (cuts .entry)) (readFrom (permuted (now (alpha .entry)) (now (beta .entry))) (now (work .entry)) 0 total)) ⌝ }
 {
     let mut ended = [0u8; SEGMENTS];
-    let mut walk = interleaver::steps::start();
+    let walk = interleaver::steps::start();
+    let mut run = Ended { walk, state: 0 };
     let mut j = 0;
     while j <= cuts.len() {
         let to = cuts::steps::stop(cuts, j, total);
-        let run = end(alpha, beta, starts, work, walk, 0, to);
+        run = end(alpha, beta, starts, work, run.walk, 0, to);
         ended[j] = run.state;
-        walk = run.walk;
         j += 1;
     }
     ended

@@ -1,17 +1,17 @@
 -- The outer trellis's kept bits by segments: how many, over joined lists, of the whole run, a step of the loop that stores them, and segments
 -- stored one behind the other.
 use mathlib.Core.Path.{_≡_, refl, sym, ap, _∙_}
-use mathlib.Core.Bool.{Bool, true, false}
+use mathlib.Core.Bool.{Bool, true}
 use mathlib.Core.List.{List, [], _∷_, _++_}
-use Prim.Native.Nat.{ℕ, suc, _+_, _-_, _/_, _%_, _≤_, _<_}
+use Prim.Native.Nat.{ℕ, suc, _+_, _-_, _%_, _≤_, _<_}
 use native.Mathlib.Omega.{arith}
 use borrow.Author.Tests.{eq-eqb, ne-eqb, eqb-true, eqb-false}
 use lib.Dec.{eqb}
-use lib.ListN.{length, getD, set, take, drop, length-append, drop-of-length-le}
+use lib.ListN.{length, getD, set, take, drop, drop-of-length-le}
 use lib.Seq.{sets, length-sets, length-take-le, take-length}
 use Rattle.bits.specs.Choice.{if_then_else_}
 use Rattle.bits.proofs.Cases.{by-cases}
-use Rattle.bits.proofs.Fill.{Left, left-as, left-start, left-store, left-store-two, sets-append, sets-front}
+use Rattle.bits.proofs.Fill.{Left, left-as, left-store, sets-append, sets-front}
 use Rattle.bits.proofs.Lists.{drop-next}
 use Rattle.trellis.specs.Trellis.{State, zero-state, stateNumber, stateOf, parity, next, parities, ends, termination, terminated, kept, outer}
 use Rattle.trellis.proofs.Runs.{terminated-length, end-back}

@@ -33,8 +33,8 @@ pub fn encode_segments(
     if number != checks::PASSED {
         return Segmented {
             number,
-            outer: cuts::no_states(),
-            inner: cuts::no_states(),
+            outer: cuts::steps::no_states(),
+            inner: cuts::steps::no_states(),
         };
     }
     let of_outer = outer_segments::steps::encode(block, outer, work);

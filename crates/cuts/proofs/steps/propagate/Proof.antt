@@ -1,5 +1,4 @@
 -- The powers of A go by their number modulo 3: I, A and A².
-use native.Mathlib.Omega.{arith}
 use borrow.Author.Needs.{needs}
 use Rattle.cuts.proofs.Propagations.{power-none, power-once, power-twice}
 use Rattle.cuts.proofs.steps.propagate.Statement.{statement}

@@ -10,21 +10,21 @@ use Rattle.interleaver.specs.Interleaver.{permuted}
 use Rattle.interleaver.specs.Walk.{Walked}
 use Rattle.inner.specs.Registers.{readFrom}
 use Rattle.inner.proofs.Reading.{read-length}
-use Rattle.cuts.specs.Cuts.{Cuts, stops, segmentsFrom, endState, endStates, mostSegments}
+use Rattle.cuts.specs.Cuts.{stops, segmentsFrom, endState, endStates, mostSegments}
 use Rattle.cuts.proofs.Segments.{At, at-start, Turn, turn-of, stops-length, stops-rise, cuts-few, ended-turn, ended-done, ended-length, padded-is}
 use Rattle.inner_segments.proofs.Passes.{reads-between}
 use Rattle.inner_segments.proofs.steps.first.Statement.{statement}
 use Rattle.inner_segments.proofs.steps.first.Tie as tie
 
 abbrev Inv-loop : tie.InvT-loop
-Inv-loop alpha beta starts work total cuts ended₀ walk₀ j₀ ended walk j =
+Inv-loop alpha beta starts work total cuts ended₀ run₀ j₀ ended run j =
     let bits = readFrom (permuted alpha beta) work 0 total in
     let ends = stops total cuts in
-    (j ≤ length ends) × At ends j (walk .position .0) × Walked (length alpha) walk
-    × Left (replicate mostSegments 0) 0 (endStates cuts bits) ended j (map endState (segmentsFrom (walk .position .0) (drop j ends) bits))
+    (j ≤ length ends) × At ends j (run .walk .position .0) × Walked (length alpha) (run .walk)
+    × Left (replicate mostSegments 0) 0 (endStates cuts bits) ended j (map endState (segmentsFrom (run .walk .position .0) (drop j ends) bits))
 
 abbrev μ-loop : tie.MeasureT-loop
-μ-loop alpha beta starts work total cuts ended₀ walk₀ j₀ ended walk j = length cuts + 1 - j
+μ-loop alpha beta starts work total cuts ended₀ run₀ j₀ ended run j = length cuts + 1 - j
 
 abbrev begun : tie.At-loop Inv-loop μ-loop → tie.After-start Inv-loop μ-loop
 begun l = l .before
@@ -65,7 +65,7 @@ module _ (e : tie.After-stop Inv-loop μ-loop) where
   abbrev s : tie.Start Inv-loop μ-loop
   s = start (begun l)
 
-  turn : Turn (s .args .total) (stops (s .args .total) (s .args .cuts .now)) (l .loop .j) (l .loop .walk .position .0) (e .stop .result)
+  turn : Turn (s .args .total) (stops (s .args .total) (s .args .cuts .now)) (l .loop .j) (l .loop .run .walk .position .0) (e .stop .result)
   turn = turn-of (s .pre .1 .2) (l .loop .inv .1) (e .before .loop-test .taken) (e .stop .ensures)
 
 end-requires : tie.Need-end-requires Inv-loop μ-loop
@@ -81,26 +81,25 @@ array-write-ended c =
 
 add-j : tie.Need-add-j Inv-loop μ-loop
 add-j c =
-    let e = c .before .before in
+    let e = c .before in
     omega (arith, e .before .loop-test .taken, cuts-few (s e .pre .1 .2))
 
 loop-less : tie.Need-loop-less Inv-loop μ-loop
-loop-less c = omega (arith, c .before .before .before .loop-test .taken)
+loop-less c = omega (arith, c .before .before .loop-test .taken)
 
 loop-again : tie.Need-loop-again Inv-loop μ-loop
 loop-again c =
-    let r = c .before in
-    let e = r .before in
+    let e = c .before in
     let t = turn e in
     let x = s e .args in
-    let here = l e .loop .walk .position .0 in
+    let here = l e .loop .run .walk .position .0 in
     let ends = stops (x .total) (x .cuts .now) in
-    let at = r .end .ensures .0 .1 in
-    let end = r .end .ensures .1 ∙ ap endState (reads-between (permuted (x .alpha .now) (x .beta .now)) (x .work .now) (x .total) here (e .stop .result) (t .up) (t .low)) in
+    let at = c .end .ensures .0 .1 in
+    let end = c .end .ensures .1 ∙ ap endState (reads-between (permuted (x .alpha .now) (x .beta .now)) (x .work .now) (x .total) here (e .stop .result) (t .up) (t .low)) in
     let left = ended-turn (bits (s e)) ends (l e .loop .j) here (t .more) (t .is) end in (
       omega (arith, t .more),
       subst (λ (p : ℕ). At ends (l e .loop .j + 1) p) (sym at) (t .next),
-      r .end .ensures .0 .0,
+      c .end .ensures .0 .0,
       left-as (ap (λ (p : ℕ). map endState (segmentsFrom p (drop (l e .loop .j + 1) ends) (bits (s e)))) (sym at)) (left-store (left-as left (l e .loop .inv .3))),
     )
 
@@ -110,7 +109,7 @@ returns c =
     let s = start (begun a) in
     let cuts = s .args .cuts .now in
     padded-is (omega (arith, ended-length cuts (bits s), cuts-few (s .pre .1 .2)))
-    (ended-done (bits s) (stops (s .args .total) cuts) (a .loop .j) (a .loop .walk .position .0) (omega (arith, stops-length (s .args .total) cuts, c .loop-test .left))) (a .loop .inv .3)
+    (ended-done (bits s) (stops (s .args .total) cuts) (a .loop .j) (a .loop .run .walk .position .0) (omega (arith, stops-length (s .args .total) cuts, c .loop-test .left))) (a .loop .inv .3)
 
 pub first-spec : {M : Type 1} → statement M
 first-spec =

@@ -1,6 +1,6 @@
 -- The terminating bits are those of the state, and their kept bits are those of two more steps.
 use mathlib.Core.Path.{ap, _∙_}
-use mathlib.Core.List.{List, [], _∷_}
+use mathlib.Core.List.{[], _∷_}
 use borrow.Author.Needs.{needs}
 use lib.Seq.{sets}
 use Rattle.trellis.specs.Trellis.{stateOf}

@@ -1,5 +1,5 @@
 -- After k steps, what is left to store are the kept bits of the rest, from the state x0, x1 and the step i + k on.
-use mathlib.Core.Path.{_≡_, refl, ap}
+use mathlib.Core.Path.{_≡_, ap}
 use mathlib.Core.Bool.{Bool}
 use mathlib.Core.List.{List, _∷_}
 use Prim.Native.Nat.{ℕ, _+_, _-_, _%_, _≤_, _<_}

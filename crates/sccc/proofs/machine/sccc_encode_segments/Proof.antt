@@ -1,5 +1,5 @@
 -- The answer, field by field.
-use mathlib.Core.Path.{ap, _∙_}
+use mathlib.Core.Path.{ap}
 use borrow.Author.Needs.{needs}
 use Rattle.sccc.specs.Structs.{segmentsStruct}
 use Rattle.sccc.proofs.machine.sccc_encode_segments.Statement.{statement}
