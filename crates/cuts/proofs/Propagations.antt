@@ -38,7 +38,7 @@ ends-from x a h0 h1 e =
     rw (propagated-zeros (length a) x) (rw (zeros-sum a e, z0, z1) at (ends-sum x zero-state (replicate (length a) 0) a (length-replicate (length a) 0)))
 
 -- equation 6-7: A³ is the identity
-pub propagated-three : (x : State) → x .0 ≤ 1 → x .1 ≤ 1 → propagated 3 x ≡ x
+propagated-three : (x : State) → x .0 ≤ 1 → x .1 ≤ 1 → propagated 3 x ≡ x
 propagated-three (zero, zero) h0 h1 = refl
 propagated-three (zero, suc zero) h0 h1 = refl
 propagated-three (suc zero, zero) h0 h1 = refl

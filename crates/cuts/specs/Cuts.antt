@@ -2,7 +2,7 @@
 use mathlib.Core.Bool.{Bool, true, _&&_}
 use mathlib.Core.List.{List, [], _∷_, _++_, map}
 use mathlib.Core.Path.{_≡_}
-use Prim.Native.Nat.{ℕ, _-_}
+use Prim.Native.Nat.{ℕ, _+_, _-_}
 use lib.Dec.{leb}
 use lib.ListN.{length, take, drop, replicate}
 use Rattle.bits.specs.Legal.{allAtMost}
@@ -52,13 +52,14 @@ risesFrom from (c ∷ cs) = leb from c && risesFrom c cs
 abbrev pub isInside : ℕ → List ℕ → Bool
 isInside long cuts = risesFrom 0 cuts && allAtMost long cuts
 
+-- a list that passes both checks, for an input of so many bits
 pub record Cuts (long : ℕ) (cuts : List ℕ) : Type 0 where
   pub few : isFew cuts ≡ true
   pub inside : isInside long cuts ≡ true
 
 -- sixteen states, 0 past the last segment
 abbrev pub mostSegments : ℕ
-mostSegments = 16
+mostSegments = mostCuts + 1
 
 abbrev pub padded : List ℕ → List ℕ
 padded states = states ++ replicate (mostSegments - length states) 0

@@ -23,8 +23,8 @@ pub fn encode(block: &[u8], cuts: &[u16], work: &mut [u8]) -> States
 {
     let ended = first(block, cuts);
     let started = cuts::steps::starts(cuts, &ended);
-    let end = second(block, cuts, &started, work);
-    finish(end, block.len(), work);
+    let last = second(block, cuts, &started, work);
+    finish(last, block.len(), work);
     States { ended, started }
 }
 
@@ -61,23 +61,23 @@ fn end(state: u8, bits: &[u8]) -> u8
     2 * x0 + x1
 }
 
-// The second pass: every segment from its own start. Answers the state in which the last one ends.
+// The second pass: every segment from its own start, and no state goes over a cut. Answers the state in which the last one ends.
 fn second(block: &[u8], cuts: &[u16], started: &[u8], work: &mut [u8]) -> u8
     requires { ⌜ Cuts (length (now block)) (now cuts) × (now started ≡ padded (startStates (now cuts) (now block))) ⌝ }
     requires { ⌜ keptBefore (length (now block)) ≤ length (now work) ⌝ }
     ensures { λ r. ⌜ r ≡ endState (now (block .entry)) ⌝ }
     ensures { λ _. ⌜ now (work .exit) ≡ sets (now (work .entry)) 0 (keptFrom 0 zero-state (now (block .entry))) ⌝ }
 {
-    let mut end = 0;
+    let mut last = 0;
     let mut from = 0;
     let mut j = 0;
     while j <= cuts.len() {
         let to = cuts::steps::stop(cuts, j, block.len());
-        end = segment(started[j], &block[from..to], from, work);
+        last = segment(started[j], &block[from..to], from, work);
         from = to;
         j += 1;
     }
-    end
+    last
 }
 
 // The steps of a segment from a state, the first of them the i-th of the whole run: their kept bits go to their place in work.

@@ -15,11 +15,11 @@ use Rattle.outer_segments.proofs.steps.second.Statement.{statement}
 use Rattle.outer_segments.proofs.steps.second.Tie as tie
 
 abbrev Inv-loop : tie.InvT-loop
-Inv-loop block cuts started work₀ end₀ from₀ j₀ work end from j =
-    (j ≤ length (stops (length block) cuts)) × At (stops (length block) cuts) j from × (end ≡ endState (take from block)) × Stored block work₀ from work
+Inv-loop block cuts started work₀ last₀ from₀ j₀ work last from j =
+    (j ≤ length (stops (length block) cuts)) × At (stops (length block) cuts) j from × (last ≡ endState (take from block)) × Stored block work₀ from work
 
 abbrev μ-loop : tie.MeasureT-loop
-μ-loop block cuts started work₀ end₀ from₀ j₀ work end from j = length cuts + 1 - j
+μ-loop block cuts started work₀ last₀ from₀ j₀ work last from j = length cuts + 1 - j
 
 abbrev start : tie.At-loop Inv-loop μ-loop → tie.Start Inv-loop μ-loop
 start l = l .before .before .before .before .before
