@@ -13,7 +13,7 @@ use Rattle.bits.proofs.Cases.{by-cases}
 use Rattle.bits.proofs.Lists.{drop-next}
 use Rattle.bits.proofs.Table.{left-true}
 
-and-false : (b : Bool) → (b && false) ≡ false
+pub and-false : (b : Bool) → (b && false) ≡ false
 and-false true = refl
 and-false false = refl
 

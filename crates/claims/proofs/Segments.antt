@@ -5,7 +5,8 @@ use lib.ListN.{length, replicate, length-replicate}
 use Rattle.bits.proofs.Legal.{legal-repeated}
 use Rattle.cuts.specs.Cuts.{mostCuts}
 use Rattle.cuts.proofs.Propagations.{worked-out, propagated-period}
-use Rattle.cuts.proofs.Segments.{segments-join, rises-repeated}
+use Rattle.cuts.proofs.Scan.{rises-repeated}
+use Rattle.cuts.proofs.Segments.{segments-join}
 use Rattle.segments.proofs.Checked.{plain-number, plain-workspace, plain-output}
 use Rattle.claims.specs.Segments.{WorksOut, Cycles, Parts, SameAsPlain, Cuttable, Segmenting}
 

@@ -1,2 +1,4 @@
 pub mod Propagations
+pub mod Scan
 pub mod Segments
+pub mod Sixteen

@@ -14,7 +14,7 @@ use Rattle.bits.proofs.Legal.{legal-head, legal-tail, legal-front, legal-rest}
 use Rattle.bits.proofs.Table.{left-true, right-true}
 use Rattle.trellis.specs.Trellis.{State, zero-state, _⊕ₛ_, stateNumber, stateOf, next, ends}
 use Rattle.trellis.proofs.Linear.{ends-sum}
-use Rattle.trellis.proofs.Runs.{ends-append, ends-bits, end-back}
+use Rattle.trellis.proofs.Runs.{ends-append, ends-bits, state-back, end-back}
 use Rattle.cuts.specs.Cuts.{between, segmentsFrom, segments, stops, endState, endStates, startStates, risesFrom, isInside}
 use Rattle.cuts.specs.Propagation.{propagated, following, workedFrom, workedOut}
 
@@ -139,7 +139,5 @@ pub followed : (s n e : ℕ) → s ≤ 3 → {t y0 y1 : ℕ} → t ≡ stateNumb
     → (2 * y0 + y1 ≡ stateNumber (following (stateOf s) n e)) × (2 * y0 + y1 ≤ 3)
 followed s n e h {t} {y0} {y1} is first second =
     let x = propagated n (stateOf s) in
-    let low = propagated-bits s n h in
-    let half : t / 2 ≡ x .0 = omega (arith, low .1) in
-    let odd : t % 2 ≡ x .1 = omega (arith, low .1) in
-    (rw (first, second, half, odd), omega arith)
+    let back : stateOf t ≡ x = ap stateOf is ∙ state-back x (propagated-bits s n h .1) in
+    (rw (first, second) (ap (λ (z : State). stateNumber (z ⊕ₛ stateOf e)) back), omega arith)

@@ -57,7 +57,14 @@ termination-bits x =
 pub terminated-bits : (x : State) (bits : List ℕ) → allBits bits ≡ true → allBits (terminatedFrom x bits) ≡ true
 terminated-bits x bits h = legal-append 1 bits (termination (ends x bits)) h (termination-bits (ends x bits))
 
--- a state of two bits stays one, and its number is its own
+-- a state is found again from its number
+pub state-back : (x : State) → x .1 ≤ 1 → stateOf (stateNumber x) ≡ x
+state-back x h =
+    let first : (2 * x .0 + x .1) / 2 ≡ x .0 = omega arith in
+    let second : (2 * x .0 + x .1) % 2 ≡ x .1 = omega arith in
+    rw (first, second)
+
+-- a state of two bits stays one, with a number from 0 to 3
 pub ends-bits : (x : State) (bits : List ℕ) → x .0 ≤ 1 → x .1 ≤ 1 → (ends x bits .0 ≤ 1) × (ends x bits .1 ≤ 1)
 ends-bits x [] h k = (h, k)
 ends-bits x (u ∷ us) h k = ends-bits (next x u) us k (omega arith)
@@ -73,10 +80,7 @@ module _ (s : ℕ) (bits : List ℕ) (h : s ≤ 3) where
   end-state = omega (arith, two-bits .0, two-bits .1)
 
   pub end-back : stateOf (stateNumber end) ≡ end
-  end-back =
-      let first : (2 * end .0 + end .1) / 2 ≡ end .0 = omega (arith, two-bits .1) in
-      let second : (2 * end .0 + end .1) % 2 ≡ end .1 = omega (arith, two-bits .1) in
-      rw (first, second)
+  end-back = state-back end (two-bits .1)
 
 -- the two terminating steps end in the state 00, from any state
 pub terminates : (x : State) → ends x (termination x) ≡ zero-state

@@ -5,7 +5,7 @@ use native.Mathlib.Omega.{arith}
 use borrow.Author.Needs.{needs}
 use lib.ListN.{length}
 use Rattle.cuts.specs.Cuts.{isInside}
-use Rattle.cuts.proofs.Segments.{insideFrom, inside-done, inside-falls, inside-beyond, inside-next}
+use Rattle.cuts.proofs.Scan.{insideFrom, inside-done, inside-falls, inside-beyond, inside-next}
 use Rattle.cuts.proofs.inside.Statement.{statement}
 use Rattle.cuts.proofs.inside.Tie as tie
 

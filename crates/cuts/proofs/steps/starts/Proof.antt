@@ -9,7 +9,8 @@ use Rattle.bits.proofs.Fill.{Left, left-as, left-store}
 use Rattle.trellis.specs.Trellis.{stateOf}
 use Rattle.cuts.specs.Cuts.{mostCuts, mostSegments}
 use Rattle.cuts.specs.Propagation.{workedFrom, workedOut}
-use Rattle.cuts.proofs.Segments.{At, at-start, at-up, at-next, worked-start, worked-turn, worked-done, worked-fits, padded-is}
+use Rattle.cuts.proofs.Segments.{At, at-start, at-up, at-next}
+use Rattle.cuts.proofs.Sixteen.{worked-start, worked-turn, worked-done, worked-fits, padded-is}
 use Rattle.cuts.proofs.steps.starts.Statement.{statement}
 use Rattle.cuts.proofs.steps.starts.Tie as tie
 

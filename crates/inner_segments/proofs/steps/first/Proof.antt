@@ -11,7 +11,8 @@ use Rattle.interleaver.specs.Walk.{Walked}
 use Rattle.inner.specs.Registers.{readFrom}
 use Rattle.inner.proofs.Reading.{read-length}
 use Rattle.cuts.specs.Cuts.{stops, segmentsFrom, endState, endStates, mostSegments}
-use Rattle.cuts.proofs.Segments.{At, at-start, Turn, turn-of, stops-length, stops-rise, cuts-few, ended-turn, ended-done, ended-length, padded-is}
+use Rattle.cuts.proofs.Segments.{At, at-start, Turn, turn-of, stops-length, stops-rise, cuts-few}
+use Rattle.cuts.proofs.Sixteen.{ended-turn, ended-done, ended-length, padded-is}
 use Rattle.inner_segments.proofs.Passes.{reads-between}
 use Rattle.inner_segments.proofs.steps.first.Statement.{statement}
 use Rattle.inner_segments.proofs.steps.first.Tie as tie

@@ -9,7 +9,8 @@ use Rattle.interleaver.specs.Interleaver.{permuted}
 use Rattle.inner.specs.Registers.{interleaved}
 use Rattle.inner.proofs.Reading.{read-length}
 use Rattle.cuts.specs.Cuts.{Cuts, startStates, padded}
-use Rattle.cuts.proofs.Segments.{cuts-few, cuts-rise, ended-sixteen, started-is, states-are}
+use Rattle.cuts.proofs.Segments.{cuts-few, cuts-rise}
+use Rattle.cuts.proofs.Sixteen.{ended-sixteen, started-is, states-are}
 use Rattle.inner_segments.proofs.steps.passes.Statement.{statement}
 use Rattle.inner_segments.proofs.steps.passes.Tie as tie
 

@@ -16,7 +16,8 @@ use Rattle.inner.proofs.Loaded.{lent-same}
 use Rattle.inner.proofs.Reading.{read-length}
 use Rattle.inner.proofs.Turns.{stands-start, completes-start, finish-rooms, completes-end}
 use Rattle.cuts.specs.Cuts.{stops}
-use Rattle.cuts.proofs.Segments.{At, at-start, at-end, Turn, turn-of, stops-rise, cuts-few, started-inside, started-at}
+use Rattle.cuts.proofs.Segments.{At, at-start, at-end, Turn, turn-of, stops-rise, cuts-few}
+use Rattle.cuts.proofs.Sixteen.{started-inside, started-at}
 use Rattle.inner_segments.specs.Passes.{restarted}
 use Rattle.inner_segments.proofs.Passes.{Along, along-start, along-next, restarted-is}
 use Rattle.inner_segments.proofs.steps.second.Statement.{statement}

@@ -6,7 +6,8 @@ use lib.ListN.{length}
 use lib.Seq.{length-sets}
 use Rattle.trellis.specs.Trellis.{zero-state}
 use Rattle.cuts.specs.Cuts.{startStates, padded}
-use Rattle.cuts.proofs.Segments.{cuts-few, cuts-rise, ended-sixteen, started-is, states-are}
+use Rattle.cuts.proofs.Segments.{cuts-few, cuts-rise}
+use Rattle.cuts.proofs.Sixteen.{ended-sixteen, started-is, states-are}
 use Rattle.outer_segments.specs.Kept.{keptFrom}
 use Rattle.outer_segments.proofs.Kept.{outer-room, outer-stored}
 use Rattle.outer_segments.proofs.steps.encode.Statement.{statement}

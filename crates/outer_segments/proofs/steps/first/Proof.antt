@@ -6,7 +6,8 @@ use borrow.Author.Needs.{needs}
 use lib.ListN.{length, drop, replicate}
 use Rattle.bits.proofs.Fill.{Left, left-as, left-start, left-store}
 use Rattle.cuts.specs.Cuts.{stops, segmentsFrom, endState, endStates, mostSegments}
-use Rattle.cuts.proofs.Segments.{At, at-start, Turn, turn-of, stops-length, stops-rise, cuts-few, ended-turn, ended-done, ended-length, padded-is}
+use Rattle.cuts.proofs.Segments.{At, at-start, Turn, turn-of, stops-length, stops-rise, cuts-few}
+use Rattle.cuts.proofs.Sixteen.{ended-turn, ended-done, ended-length, padded-is}
 use Rattle.outer_segments.proofs.steps.first.Statement.{statement}
 use Rattle.outer_segments.proofs.steps.first.Tie as tie
 

@@ -9,7 +9,8 @@ use Rattle.trellis.specs.Trellis.{State, zero-state, stateNumber, stateOf, ends
 use Rattle.trellis.proofs.Runs.{end-back}
 use Rattle.cuts.specs.Cuts.{stops, between, endState}
 use Rattle.cuts.proofs.Propagations.{ends-between}
-use Rattle.cuts.proofs.Segments.{At, at-start, at-end, Turn, turn-of, stops-length, stops-rise, cuts-few, started-inside, started-at}
+use Rattle.cuts.proofs.Segments.{At, at-start, at-end, Turn, turn-of, stops-length, stops-rise, cuts-few}
+use Rattle.cuts.proofs.Sixteen.{started-inside, started-at}
 use Rattle.outer_segments.proofs.Kept.{Stored, stored-start, stored-next, stored-end, stored-length, segment-room}
 use Rattle.outer_segments.proofs.steps.second.Statement.{statement}
 use Rattle.outer_segments.proofs.steps.second.Tie as tie
