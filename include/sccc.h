@@ -3,9 +3,9 @@
  * blocks, from a block to its codeword, the codeword's labels and a frame without pilots, and a
  * comparison of two label lists. Link build/libsccc.a or build/libsccc.so (x86-64 Linux).
  *
- * Data      A bit is a byte, 0 or 1. A label is a byte below 2^m. A slot of a frame is a uint16_t.
- *           An octet of a transfer frame is a byte. Places and positions count from 0. K, I, W, N
- *           and m are those of the ACM format.
+ * Data      A bit is a byte, 0 or 1. A label is a byte below 2^m. A slot of a frame is a uint16_t,
+ *           and so is a cut of a trellis' input. An octet of a transfer frame is a byte. Places and
+ *           positions count from 0. K, I, W, N and m are those of the ACM format.
  *
  * Answers   A call makes its checks in the order that is given with it. The number of the first
  *           one that fails is the answer, 0 if none does. Every argument has an answer: a number

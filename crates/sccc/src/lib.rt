@@ -1,6 +1,6 @@
 // The C interface of include/sccc.h, thin over the layers below.
-// An exported function can return neither a slice nor an enum, so the answers are structs of 64-bit numbers: the number of the check that
-// failed, 0 if none did, and what was asked for. A refusal has 0 in every other field.
+// An exported function can return neither a slice nor an enum, so the answers are structs: the number of the check that failed, 0 if none did,
+// and what was asked for, 64-bit numbers or, of segments, arrays of bytes. A refusal has 0 in every other field.
 ghost use mathlib.Core.Path.{_≡_};
 ghost use lib.ListN.{length};
 ghost use Rattle.acm.specs.Formats.{lookedUp};
