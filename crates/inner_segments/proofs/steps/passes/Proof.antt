@@ -8,7 +8,7 @@ use lib.ListN.{length}
 use Rattle.interleaver.specs.Interleaver.{permuted}
 use Rattle.inner.specs.Registers.{interleaved}
 use Rattle.inner.proofs.Reading.{read-length}
-use Rattle.cuts.specs.Cuts.{Cuts, startStates, padded}
+use Rattle.cuts.specs.Cuts.{Cuts, startStates, mostSegments, padded}
 use Rattle.cuts.proofs.Segments.{cuts-few, cuts-rise}
 use Rattle.cuts.proofs.Sixteen.{ended-sixteen, started-is, states-are}
 use Rattle.inner_segments.proofs.steps.passes.Statement.{statement}
@@ -25,7 +25,7 @@ module _ (f : tie.After-first) where
   cuts-are : Cuts (length bits) (s .args .cuts .now)
   cuts-are = subst (λ (n : ℕ). Cuts n (s .args .cuts .now)) (sym (read-length _ _ 0 (s .args .f .i))) (s .pre .1 .1 .0)
 
-  sixteen : length (f .first .result) ≡ 16
+  sixteen : length (f .first .result) ≡ mostSegments
   sixteen = ended-sixteen bits (s .args .cuts .now) cuts-are (f .first .ensures)
 
 -- the starting states
