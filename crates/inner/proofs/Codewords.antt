@@ -38,9 +38,6 @@ module _ (f : ℕ) (h : isFormat f ≡ true) (ρ : ℕ → ℕ) (p : Permutes (f
       omega (arith, n, m, format-sound f h .total)
 
 module _ (f : ℕ) (h : isFormat f ≡ true) where
-  abbrev record-of : Format
-  record-of = formatOf f
-
   abbrev read : List ℕ → List ℕ
   read kept = interleaved (formatOf f) (π f) kept
 

@@ -26,7 +26,7 @@ kept-length i x (u ∷ us) =
     (λ t. rw t (omega (arith, eqb-true (i % 2) 0 t, kept-length (i + 1) (next x u) us)))
     (λ f. rw f (omega (arith, eqb-false (i % 2) 0 f, kept-length (i + 1) (next x u) us)))
 
-pub kept-append : (i : ℕ) (x : State) (a b : List ℕ) → keptFrom i x (a ++ b) ≡ keptFrom i x a ++ keptFrom (i + length a) (ends x a) b
+kept-append : (i : ℕ) (x : State) (a b : List ℕ) → keptFrom i x (a ++ b) ≡ keptFrom i x a ++ keptFrom (i + length a) (ends x a) b
 kept-append i x [] b =
     let e : i ≡ i + 0 = omega arith in
     ap (λ (k : ℕ). keptFrom k x b) e

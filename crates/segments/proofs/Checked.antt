@@ -29,7 +29,7 @@ module _ (f : ℕ) (block : List ℕ) (workRoom outRoom : ℕ) (outerCuts innerC
   unfolding segmentsNumber
   encode-first e = when-refused (encodeNumber f block workRoom outRoom) (firstFailed (cutsChecks f outerCuts innerCuts)) (encodeNumber f block workRoom outRoom) e
 
-  pub cuts-later : encodeNumber f block workRoom outRoom ≡ passed → firstFailed (cutsChecks f outerCuts innerCuts) ≡ segmentsNumber f block workRoom outRoom outerCuts innerCuts
+  cuts-later : encodeNumber f block workRoom outRoom ≡ passed → firstFailed (cutsChecks f outerCuts innerCuts) ≡ segmentsNumber f block workRoom outRoom outerCuts innerCuts
   unfolding segmentsNumber
   cuts-later e = when-passed (encodeNumber f block workRoom outRoom) (firstFailed (cutsChecks f outerCuts innerCuts)) (encodeNumber f block workRoom outRoom) e
 
