@@ -6,22 +6,23 @@ use Prim.Native.Nat.{ℕ, suc, _+_, _-_, _*_, _%_, _≤_, _<_}
 use native.Mathlib.Omega.{arith}
 use borrow.Author.Tests.{leb-true, ltb-true, eqb-true}
 use lib.Dec.{leb, ltb, eqb, lit<}
-use lib.ListN.{getD, List·getD-map}
+use lib.ListN.{length, getD, List·getD-map}
 use Rattle.bits.specs.Checks.{passed, badFormat}
 use Rattle.bits.proofs.Cases.{by-cases}
 use Rattle.bits.proofs.Table.{left-true, right-true, every, every-at, below, below-at}
 use Rattle.acm.specs.declared.table.Format.{Format}
 use Rattle.acm.specs.declared.table.Row.{Row}
 use Rattle.acm.specs.declared.Found.the-variants.{Record, NoFormat}
-use Rattle.acm.specs.Formats.{M, symbols, formats, formatOf, none, lastFormat, isFormat, mostK, mostI, mostN, Answer, answerOf, lookedUp}
+use Rattle.acm.specs.Formats.{M, symbols, formats, formatOf, none, lastFormat, isFormat, P, N1, AllSoft, mostK, mostI, mostN, Answer, answerOf, lookedUp}
 use Rattle.acm.specs.Table.{recordOf}
 
 pub record Sound (r : Format) : Type 0 where
-  pub outer : 2 * r .i ≡ 3 * (r .k + 2)
-  pub even : r .k % 2 ≡ 0
+  pub split : r .k ≡ r .k1 + r .k2
+  pub outer : 2 * r .i ≡ 3 * (r .k1 + 2)
+  pub even : r .k1 % 2 ≡ 0
   pub banks : r .i ≡ M * r .w
   pub labels : r .n ≡ symbols * r .m
-  pub total : r .s + (r .i - r .delta + 2) ≡ r .n
+  pub total : r .s + P r ≡ N1 r
   pub deletes : r .delta < r .i
   pub keeps : r .survivors ≤ 300
   pub least-keeps : 200 ≤ r .survivors
@@ -29,15 +30,17 @@ pub record Sound (r : Format) : Type 0 where
   pub widest : r .w ≤ 546
   pub least-m : 2 ≤ r .m
   pub most-m : r .m ≤ 6
+  pub most-k : r .k ≤ mostK
 
 -- the same as tests, in the same order
 abbrev tests : Format → List Bool
 tests r =
-    eqb (2 * r .i) (3 * (r .k + 2))
-    ∷ eqb (r .k % 2) 0
+    eqb (r .k) (r .k1 + r .k2)
+    ∷ eqb (2 * r .i) (3 * (r .k1 + 2))
+    ∷ eqb (r .k1 % 2) 0
     ∷ eqb (r .i) (M * r .w)
     ∷ eqb (r .n) (symbols * r .m)
-    ∷ eqb (r .s + (r .i - r .delta + 2)) (r .n)
+    ∷ eqb (r .s + P r) (N1 r)
     ∷ ltb (r .delta) (r .i)
     ∷ leb (r .survivors) 300
     ∷ leb 200 (r .survivors)
@@ -45,12 +48,10 @@ tests r =
     ∷ leb (r .w) 546
     ∷ leb 2 (r .m)
     ∷ leb (r .m) 6
+    ∷ leb (r .k) mostK
     ∷ []
 
-abbrev sound : Format → Bool
-sound r = every (λ i t. t) 0 (tests r)
-
-tested : below (λ g. sound (formatOf (suc g))) lastFormat ≡ true
+tested : below (λ g. every (λ i t. t) 0 (tests (formatOf (suc g)))) lastFormat ≡ true
 unfolding formatOf formats
 tested = refl
 
@@ -61,13 +62,46 @@ format-low f h = leb-true 1 f (left-true (leb 1 f) (leb f lastFormat) h)
 pub format-high : (f : ℕ) → isFormat f ≡ true → f ≤ lastFormat
 format-high f h = leb-true f lastFormat (right-true (leb 1 f) (leb f lastFormat) h)
 
--- a test that holds of the records of all formats holds of every format's
-pub format-test : (test : Format → Bool) → below (λ g. test (formatOf (suc g))) lastFormat ≡ true → (f : ℕ) → isFormat f ≡ true → test (formatOf f) ≡ true
+-- a test that holds of 1 to 27 holds of every format
+pub format-test : (test : ℕ → Bool) → below (λ g. test (suc g)) lastFormat ≡ true → (f : ℕ) → isFormat f ≡ true → test f ≡ true
 format-test test all f h =
     let low = format-low f h in
     let high = format-high f h in
     let e : suc (f - 1) ≡ f = omega arith in
-    subst (λ (g : ℕ). test (formatOf g) ≡ true) e (below-at (λ g. test (formatOf (suc g))) lastFormat all (f - 1) (omega arith))
+    subst (λ (g : ℕ). test g ≡ true) e (below-at (λ g. test (suc g)) lastFormat all (f - 1) (omega arith))
+
+-- every format has a record, and the record's number is the place it stands at
+pub one-each : length formats ≡ lastFormat
+unfolding formats
+one-each = refl
+
+numbered : below (λ g. eqb (formatOf (suc g) .number) (suc g)) lastFormat ≡ true
+unfolding formatOf formats
+numbered = refl
+
+pub format-number : (f : ℕ) → isFormat f ≡ true → formatOf f .number ≡ f
+format-number f h = eqb-true _ _ (format-test (λ f. eqb (formatOf f .number) f) numbered f h)
+
+-- K1, K2 and the soft bits are K, 0 and m
+k1-tested : below (λ g. eqb (formatOf (suc g) .k1) (formatOf (suc g) .k)) lastFormat ≡ true
+unfolding formatOf formats
+k1-tested = refl
+
+k2-tested : below (λ g. eqb (formatOf (suc g) .k2) 0) lastFormat ≡ true
+unfolding formatOf formats
+k2-tested = refl
+
+soft-tested : below (λ g. eqb (formatOf (suc g) .soft) (formatOf (suc g) .m)) lastFormat ≡ true
+unfolding formatOf formats
+soft-tested = refl
+
+pub all-soft : (f : ℕ) → isFormat f ≡ true → AllSoft (formatOf f)
+all-soft f h =
+    record {
+      k1-is = eqb-true _ _ (format-test (λ f. eqb (formatOf f .k1) (formatOf f .k)) k1-tested f h);
+      k2-is = eqb-true _ _ (format-test (λ f. eqb (formatOf f .k2) 0) k2-tested f h);
+      soft-is = eqb-true _ _ (format-test (λ f. eqb (formatOf f .soft) (formatOf f .m)) soft-tested f h);
+    }
 
 -- record g of the table is that of format g + 1
 pub record-at : (f : ℕ) → 1 ≤ f → getD formats (f - 1) none ≡ formatOf f
@@ -78,30 +112,46 @@ record-at f low =
 
 -- a record as a row; the rows of all records have each at its place
 abbrev pub rowOf : Format → Row
-rowOf r = record { m = r .m; k = r .k; i = r .i; w = r .w; n = r .n; survivors = r .survivors; s = r .s; delta = r .delta }
+rowOf r =
+    record {
+      number = r .number;
+      m = r .m;
+      k = r .k;
+      i = r .i;
+      w = r .w;
+      n = r .n;
+      k1 = r .k1;
+      k2 = r .k2;
+      soft = r .soft;
+      survivors = r .survivors;
+      s = r .s;
+      delta = r .delta;
+    }
 
 pub row-at : (g : ℕ) → recordOf (getD (map rowOf formats) g (rowOf none)) ≡ getD formats g none
 row-at g = ap recordOf (List·getD-map rowOf formats g none)
 
 module _ (f : ℕ) (h : isFormat f ≡ true) where
-  part : (k : ℕ) → k < 12 → getD (tests (formatOf f)) k true ≡ true
-  part = every-at (λ i t. t) (tests (formatOf f)) true (format-test sound tested f h)
+  part : (k : ℕ) → k < 14 → getD (tests (formatOf f)) k true ≡ true
+  part = every-at (λ i t. t) (tests (formatOf f)) true (format-test (λ f. every (λ i t. t) 0 (tests (formatOf f))) tested f h)
 
   pub format-sound : Sound (formatOf f)
   format-sound =
       record {
-        outer = eqb-true _ _ (part 0 (lit< tt));
-        even = eqb-true _ _ (part 1 (lit< tt));
-        banks = eqb-true _ _ (part 2 (lit< tt));
-        labels = eqb-true _ _ (part 3 (lit< tt));
-        total = eqb-true _ _ (part 4 (lit< tt));
-        deletes = ltb-true _ _ (part 5 (lit< tt));
-        keeps = leb-true _ _ (part 6 (lit< tt));
-        least-keeps = leb-true _ _ (part 7 (lit< tt));
-        some = ltb-true _ _ (part 8 (lit< tt));
-        widest = leb-true _ _ (part 9 (lit< tt));
-        least-m = leb-true _ _ (part 10 (lit< tt));
-        most-m = leb-true _ _ (part 11 (lit< tt));
+        split = eqb-true _ _ (part 0 (lit< tt));
+        outer = eqb-true _ _ (part 1 (lit< tt));
+        even = eqb-true _ _ (part 2 (lit< tt));
+        banks = eqb-true _ _ (part 3 (lit< tt));
+        labels = eqb-true _ _ (part 4 (lit< tt));
+        total = eqb-true _ _ (part 5 (lit< tt));
+        deletes = ltb-true _ _ (part 6 (lit< tt));
+        keeps = leb-true _ _ (part 7 (lit< tt));
+        least-keeps = leb-true _ _ (part 8 (lit< tt));
+        some = ltb-true _ _ (part 9 (lit< tt));
+        widest = leb-true _ _ (part 10 (lit< tt));
+        least-m = leb-true _ _ (part 11 (lit< tt));
+        most-m = leb-true _ _ (part 12 (lit< tt));
+        most-k = leb-true _ _ (part 13 (lit< tt));
       }
 
 -- memory of the largest K, I and N is enough for every format
@@ -115,8 +165,8 @@ pub within : (f : ℕ) → isFormat f ≡ true → Within (formatOf f)
 within f h =
     let s = format-sound f h in
     record {
-      some = omega (arith, s .outer, s .banks, s .some);
-      most-k = omega (arith, s .outer, s .banks, s .widest);
+      some = omega (arith, s .split, s .outer, s .banks, s .some);
+      most-k = s .most-k;
       most-i = omega (arith, s .banks, s .widest);
       most-n = omega (arith, s .labels, s .most-m);
     }

@@ -1,7 +1,8 @@
--- The ACM formats (table 4-3), and the lookup's answer.
+-- The ACM formats (table 4-3) with their soft share (document 02, L7), and the lookup's answer.
+use mathlib.Core.Path.{_≡_}
 use mathlib.Core.Bool.{Bool, _&&_}
 use mathlib.Core.List.{List, [], _∷_}
-use Prim.Native.Nat.{ℕ, _-_, _^_}
+use Prim.Native.Nat.{ℕ, _+_, _-_, _*_, _^_}
 use lib.Dec.{leb}
 use lib.ListN.{getD}
 use Rattle.bits.specs.Checks.{passed, badFormat}
@@ -17,42 +18,43 @@ symbols = 8100
 abbrev pub M : ℕ
 M = 120
 
--- m, K, I, W, N, S_sur, S, Δ
-abbrev pub row : ℕ → ℕ → ℕ → ℕ → ℕ → ℕ → ℕ → ℕ → Format
-row m K I W N Ssur S Δ = record { m = m; k = K; i = I; w = W; n = N; survivors = Ssur; s = S; delta = Δ }
+-- the format's number, m, K, I, W, N, S_sur, S, Δ, where K1 is K, K2 is 0, and all m bits of a label are soft
+abbrev pub row : ℕ → ℕ → ℕ → ℕ → ℕ → ℕ → ℕ → ℕ → ℕ → Format
+row f m K I W N Ssur S Δ =
+    record { number = f; m = m; k = K; i = I; w = W; n = N; k1 = K; k2 = 0; soft = m; survivors = Ssur; s = S; delta = Δ }
 
 abbrev pub none : Format
-none = row 0 0 0 0 0 0 0 0
+none = row 0 0 0 0 0 0 0 0 0
 
 unfoldable pub formats : List Format
 formats =
-    row 2 5758 8640 72 16200 300 8642 1084 ∷
-    row 2 6958 10440 87 16200 300 10442 4684 ∷
-    row 2 8398 12600 105 16200 274 11510 7912 ∷
-    row 2 9838 14760 123 16200 251 12351 10913 ∷
-    row 2 11278 16920 141 16200 234 13200 13922 ∷
-    row 2 13198 19800 165 16200 218 14390 17992 ∷
-    row 3 11278 16920 141 24300 292 16470 9092 ∷
-    row 3 13198 19800 165 24300 240 15842 11344 ∷
-    row 3 14878 22320 186 24300 250 18602 16624 ∷
-    row 3 17038 25560 213 24300 234 19939 21201 ∷
-    row 3 19198 28800 240 24300 221 21218 25720 ∷
-    row 3 21358 32040 267 24300 214 22857 30599 ∷
-    row 4 19198 28800 240 32400 255 24482 20884 ∷
-    row 4 21358 32040 267 32400 241 25741 25383 ∷
-    row 4 23518 35280 294 32400 230 27051 29933 ∷
-    row 4 25918 38880 324 32400 220 28515 34997 ∷
-    row 4 28318 42480 354 32400 211 29880 39962 ∷
-    row 5 25918 38880 324 40500 245 31755 30137 ∷
-    row 5 28318 42480 354 40500 234 33137 35119 ∷
-    row 5 30958 46440 387 40500 224 34677 40619 ∷
-    row 5 33358 50040 417 40500 217 36197 45739 ∷
-    row 5 35998 54000 450 40500 210 37802 51304 ∷
-    row 6 33358 50040 417 48600 236 39366 40808 ∷
-    row 6 35998 54000 450 48600 228 41042 46444 ∷
-    row 6 38638 57960 483 48600 220 42507 51869 ∷
-    row 6 41038 61560 513 48600 214 43915 56877 ∷
-    row 6 43678 65520 546 48600 208 45429 62351 ∷
+    row 1 2 5758 8640 72 16200 300 8642 1084 ∷
+    row 2 2 6958 10440 87 16200 300 10442 4684 ∷
+    row 3 2 8398 12600 105 16200 274 11510 7912 ∷
+    row 4 2 9838 14760 123 16200 251 12351 10913 ∷
+    row 5 2 11278 16920 141 16200 234 13200 13922 ∷
+    row 6 2 13198 19800 165 16200 218 14390 17992 ∷
+    row 7 3 11278 16920 141 24300 292 16470 9092 ∷
+    row 8 3 13198 19800 165 24300 240 15842 11344 ∷
+    row 9 3 14878 22320 186 24300 250 18602 16624 ∷
+    row 10 3 17038 25560 213 24300 234 19939 21201 ∷
+    row 11 3 19198 28800 240 24300 221 21218 25720 ∷
+    row 12 3 21358 32040 267 24300 214 22857 30599 ∷
+    row 13 4 19198 28800 240 32400 255 24482 20884 ∷
+    row 14 4 21358 32040 267 32400 241 25741 25383 ∷
+    row 15 4 23518 35280 294 32400 230 27051 29933 ∷
+    row 16 4 25918 38880 324 32400 220 28515 34997 ∷
+    row 17 4 28318 42480 354 32400 211 29880 39962 ∷
+    row 18 5 25918 38880 324 40500 245 31755 30137 ∷
+    row 19 5 28318 42480 354 40500 234 33137 35119 ∷
+    row 20 5 30958 46440 387 40500 224 34677 40619 ∷
+    row 21 5 33358 50040 417 40500 217 36197 45739 ∷
+    row 22 5 35998 54000 450 40500 210 37802 51304 ∷
+    row 23 6 33358 50040 417 48600 236 39366 40808 ∷
+    row 24 6 35998 54000 450 48600 228 41042 46444 ∷
+    row 25 6 38638 57960 483 48600 220 42507 51869 ∷
+    row 26 6 41038 61560 513 48600 214 43915 56877 ∷
+    row 27 6 43678 65520 546 48600 208 45429 62351 ∷
     []
 
 -- the number of the last format
@@ -65,6 +67,20 @@ isFormat f = leb 1 f && leb f lastFormat
 -- the record of format f, and one of zeros where there is no such format
 unfoldable pub formatOf : ℕ → Format
 formatOf f = getD (none ∷ formats) f none
+
+-- table 4-3's P: parity bits of the trellises that are kept, the two terminating ones among them
+abbrev pub P : Format → ℕ
+P r = r .i - r .delta + 2
+
+-- N1 (004, table 5-3): bits of a codeword that come from the trellises
+abbrev pub N1 : Format → ℕ
+N1 r = symbols * r .soft
+
+-- every bit of a block goes through the trellises, and so every bit of a label is soft
+pub record AllSoft (r : Format) : Type 0 where
+  pub k1-is : r .k1 ≡ r .k
+  pub k2-is : r .k2 ≡ 0
+  pub soft-is : r .soft ≡ r .m
 
 -- the largest K, I and N
 abbrev pub mostK : ℕ

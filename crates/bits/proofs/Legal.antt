@@ -82,6 +82,9 @@ legal-at top (x ∷ l) e (suc k) = legal-at top l (legal-tail top x l e) k
 pub legal-front : (top : ℕ) (a b : List ℕ) → allAtMost top (a ++ b) ≡ true → allAtMost top a ≡ true
 legal-front top a b e = left-true (allAtMost top a) (allAtMost top b) (rw (legal-both top a b) at e)
 
+pub legal-take : (top n : ℕ) (l : List ℕ) → allAtMost top l ≡ true → allAtMost top (take n l) ≡ true
+legal-take top n l e = legal-front top (take n l) (drop n l) (rw (take-append-drop n l) e)
+
 pub legal-rest : (top : ℕ) (a b : List ℕ) → allAtMost top (a ++ b) ≡ true → allAtMost top b ≡ true
 legal-rest top [] b e = e
 legal-rest top (x ∷ a) b e = legal-rest top a b (legal-tail top x (a ++ b) e)

@@ -7,7 +7,7 @@ use native.Mathlib.Nat.{mod-add-mod, add-mod-mod}
 use native.Mathlib.Omega.{arith}
 use borrow.Author.Tests.{le-leb}
 use lib.Bits.{bitXor, xor-add-and, xor-shr}
-use lib.ListN.{length, getD}
+use lib.ListN.{length, getD, take}
 use Rattle.bits.specs.Legal.{allBits}
 use Rattle.bits.specs.Sum.{_⊕_, _⊕*_, bit}
 
@@ -26,6 +26,12 @@ pub ⊕*-append : (a b xs ys : List ℕ) → length a ≡ length b → (a ++ xs)
 ⊕*-append [] (v ∷ b) xs ys e = absurd (omega arith)
 ⊕*-append (u ∷ a) [] xs ys e = absurd (omega arith)
 ⊕*-append (u ∷ a) (v ∷ b) xs ys e = ap (λ (l : List ℕ). u ⊕ v ∷ l) (⊕*-append a b xs ys (omega arith))
+
+pub ⊕*-take : (n : ℕ) (xs ys : List ℕ) → take n (xs ⊕* ys) ≡ take n xs ⊕* take n ys
+⊕*-take zero xs ys = refl
+⊕*-take (suc n) [] ys = refl
+⊕*-take (suc n) (x ∷ xs) [] = refl
+⊕*-take (suc n) (x ∷ xs) (y ∷ ys) = ap (λ (l : List ℕ). x ⊕ y ∷ l) (⊕*-take n xs ys)
 
 pub ⊕*-at : (xs ys : List ℕ) (k : ℕ) → length xs ≡ length ys → getD (xs ⊕* ys) k 0 ≡ getD xs k 0 ⊕ getD ys k 0
 ⊕*-at [] [] k e = refl

@@ -23,7 +23,7 @@ use Rattle.inner.specs.Registers.{interleaved}
 use Rattle.mapping.specs.Labels.{labels}
 use Rattle.mapping.proofs.Rows.{label-low, labels-long, label-at}
 use Rattle.mapping.proofs.Xor.{labels-xor}
-use Rattle.encoder.specs.Codeword.{codeword}
+use Rattle.encoder.specs.Codeword.{trellisPart, codeword}
 use Rattle.encoder.proofs.Codewords.{codeword-length, codeword-bits}
 use Rattle.encoder.proofs.Linear.{codeword-sum}
 use Rattle.claims.specs.Demand3.{Block, OneWhereDiffer, blockLabels, Linear, Wholeness, Linearity, Termination, Demand3}
@@ -97,7 +97,8 @@ linearity f h a b c A B C d =
     subst (Linear f a b) (sym sum) (linear-sum f h a b A B)
 
 termination : Termination
-termination f h block B = (terminated-ends block, terminated-ends (interleaved (formatOf f) (π f) (outer block)))
+termination f h block B =
+    (terminated-ends (trellisPart f block), terminated-ends (interleaved (formatOf f) (π f) (outer (trellisPart f block))))
 
 pub demand3 : Demand3
 demand3 = record { wholeness = wholeness; linearity = linearity; termination = termination; permutation = π-permutes }

@@ -14,7 +14,7 @@ use Rattle.trellis.specs.Trellis.{zero-state, ends, terminated, outer}
 use Rattle.interleaver.specs.Interleaver.{π}
 use Rattle.inner.specs.Registers.{interleaved}
 use Rattle.mapping.specs.Labels.{labels}
-use Rattle.encoder.specs.Codeword.{codeword}
+use Rattle.encoder.specs.Codeword.{trellisPart, codeword}
 
 -- an information block of K ones and zeros
 pub record Block (f : ℕ) (block : List ℕ) : Type 0 where
@@ -52,12 +52,12 @@ abbrev pub Linearity : Type 0
 Linearity =
     (f : ℕ) → isFormat f ≡ true → (a b c : List ℕ) → Block f a → Block f b → Block f c → OneWhereDiffer (formatOf f .k) a b c → Linear f a b c
 
--- both trellises are in state 00 after their second terminating step
+-- both trellises are in state 00 after their second terminating step, the outer one over the trellis part of the block
 abbrev pub Termination : Type 0
 Termination =
     (f : ℕ) → isFormat f ≡ true → (block : List ℕ) → Block f block
-    → (ends zero-state (terminated block) ≡ zero-state)
-    × (ends zero-state (terminated (interleaved (formatOf f) (π f) (outer block))) ≡ zero-state)
+    → (ends zero-state (terminated (trellisPart f block)) ≡ zero-state)
+    × (ends zero-state (terminated (interleaved (formatOf f) (π f) (outer (trellisPart f block)))) ≡ zero-state)
 
 -- the interleaver of every format is a permutation of 0 to I - 1
 abbrev pub Permutation : Type 0

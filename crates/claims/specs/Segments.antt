@@ -35,7 +35,7 @@ pub record Plain (f : ℕ) (block work out outerCuts innerCuts : List ℕ) : Typ
 
 abbrev pub SameAsPlain : Type 0
 SameAsPlain =
-    (f : ℕ) (block work out outerCuts innerCuts : List ℕ) → Cuts (formatOf f .k) outerCuts → Cuts (formatOf f .i) innerCuts
+    (f : ℕ) (block work out outerCuts innerCuts : List ℕ) → Cuts (formatOf f .k1) outerCuts → Cuts (formatOf f .i) innerCuts
     → Plain f block work out outerCuts innerCuts
 
 -- and there are such lists: none to fifteen cuts at any place

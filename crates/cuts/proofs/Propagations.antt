@@ -10,7 +10,7 @@ use lib.ListN.{length, take, drop, replicate, length-replicate, length-drop, tak
 use lib.Seq.{length-take-le, take-add}
 use Rattle.bits.specs.Legal.{allAtMost, allBits}
 use Rattle.bits.specs.Sum.{_⊕_, _⊕*_}
-use Rattle.bits.proofs.Legal.{legal-head, legal-tail, legal-front, legal-rest}
+use Rattle.bits.proofs.Legal.{legal-head, legal-tail, legal-take, legal-rest}
 use Rattle.bits.proofs.Table.{left-true, right-true}
 use Rattle.trellis.specs.Trellis.{State, zero-state, _⊕ₛ_, stateNumber, stateOf, next, ends}
 use Rattle.trellis.proofs.Linear.{ends-sum}
@@ -67,7 +67,7 @@ between-length from to bits h = length-take-le (to - from) (drop from bits) (sim
 between-bits : (from to : ℕ) (bits : List ℕ) → allBits bits ≡ true → allBits (between from to bits) ≡ true
 between-bits from to bits h =
     let rest = legal-rest 1 (take from bits) (drop from bits) (rw (take-append-drop from bits) h) in
-    legal-front 1 (between from to bits) (drop (to - from) (drop from bits)) (rw (take-append-drop (to - from) (drop from bits)) rest)
+    legal-take 1 (to - from) (drop from bits) rest
 
 -- a segment from its own start ends where the plain run is at its end
 pub ends-between : (bits : List ℕ) (from to : ℕ) → from ≤ to → ends (ends zero-state (take from bits)) (between from to bits) ≡ ends zero-state (take to bits)

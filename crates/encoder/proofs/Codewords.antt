@@ -1,30 +1,57 @@
--- The codeword of a block: how long it is, and that it is bits.
-use mathlib.Core.Path.{_≡_}
+-- The codeword of a block: how long it and its trellis part are, that they are bits, and what the two trellises write of it.
+use mathlib.Core.Path.{_≡_, ap₂, _∙_}
 use mathlib.Core.Bool.{true}
-use mathlib.Core.List.{List}
-use Prim.Native.Nat.{ℕ, _%_}
+use mathlib.Core.List.{List, _++_}
+use Prim.Native.Nat.{ℕ, _%_, _≤_}
 use native.Mathlib.Omega.{arith}
-use lib.ListN.{length}
+use lib.ListN.{length, drop}
+use lib.Seq.{length-take-le}
 use Rattle.bits.specs.Legal.{allBits}
-use Rattle.acm.specs.Formats.{isFormat, formatOf}
-use Rattle.acm.proofs.Laws.{format-sound}
+use Rattle.bits.proofs.Legal.{legal-take}
+use Rattle.acm.specs.Formats.{isFormat, formatOf, N1}
+use Rattle.acm.proofs.Laws.{format-sound, all-soft}
 use Rattle.trellis.specs.Trellis.{outer}
 use Rattle.trellis.proofs.Outer.{outer-length, outer-bits}
-use Rattle.inner.proofs.Codewords.{from-outer-length, from-outer-bits}
-use Rattle.encoder.specs.Codeword.{codeword}
+use Rattle.inner.specs.Registers.{fromOuter}
+use Rattle.inner.proofs.Codewords.{from-outer-length, from-outer-front, from-outer-bits}
+use Rattle.encoder.specs.Codeword.{trellisPart, codeword}
 
 module _ (f : ℕ) (h : isFormat f ≡ true) where
-  -- the outer kept bits of a block of K bits
-  pub outer-long : (block : List ℕ) → length block ≡ formatOf f .k → length (outer block) ≡ formatOf f .i
-  outer-long block e =
-      let s = format-sound f h in
-      let even : length block % 2 ≡ 0 = omega (arith, s .even) in
-      omega (arith, outer-length block even, s .outer)
+  -- every bit of a codeword comes from the trellises
+  trellis-whole : N1 (formatOf f) ≡ formatOf f .n
+  trellis-whole = omega (arith, all-soft f h .soft-is, format-sound f h .labels)
+
+  pub trellis-room : {room : ℕ} → formatOf f .n ≤ room → N1 (formatOf f) ≤ room
+  trellis-room fits = omega (arith, trellis-whole)
 
   pub codeword-length : (block : List ℕ) → length (codeword f block) ≡ formatOf f .n
   unfolding codeword
-  codeword-length block = from-outer-length f h (outer block)
+  codeword-length block = from-outer-length f h (outer (trellisPart f block)) ∙ trellis-whole
 
   pub codeword-bits : (block : List ℕ) → allBits block ≡ true → allBits (codeword f block) ≡ true
   unfolding codeword
-  codeword-bits block b = from-outer-bits f h (outer block) (outer-bits block b)
+  codeword-bits block b =
+      let part = trellisPart f block in
+      from-outer-bits f h (outer part) (outer-bits part (legal-take 1 (formatOf f .k1) block b))
+
+  -- of a block of K bits
+  module _ (block : List ℕ) (e : length block ≡ formatOf f .k) where
+    pub part-fits : formatOf f .k1 ≤ length block
+    part-fits = omega (arith, format-sound f h .split)
+
+    pub part-long : length (trellisPart f block) ≡ formatOf f .k1
+    part-long = length-take-le (formatOf f .k1) block part-fits
+
+    pub part-even : length (trellisPart f block) % 2 ≡ 0
+    part-even = omega (arith, part-long, format-sound f h .even)
+
+    -- its outer kept bits
+    pub outer-long : length (outer (trellisPart f block)) ≡ formatOf f .i
+    outer-long = omega (arith, outer-length (trellisPart f block) part-even, part-long, format-sound f h .outer)
+
+    -- what the inner trellis writes of a workspace with these at its front
+    pub trellis-written : (rest out : List ℕ)
+        → fromOuter f (outer (trellisPart f block) ++ rest) ++ drop (N1 (formatOf f)) out ≡ codeword f block ++ drop (formatOf f .n) out
+    unfolding codeword
+    trellis-written rest out =
+        ap₂ (λ (l : List ℕ) (n : ℕ). l ++ drop n out) (from-outer-front f h (outer (trellisPart f block)) rest outer-long) trellis-whole

@@ -9,7 +9,7 @@ use Rattle.bits.specs.Legal.{allBits}
 use Rattle.acm.specs.Formats.{symbols, isFormat, formatOf}
 use Rattle.trellis.specs.Trellis.{outer}
 use Rattle.mapping.specs.Labels.{labels}
-use Rattle.encoder.specs.Codeword.{codeword}
+use Rattle.encoder.specs.Codeword.{trellisPart, codeword}
 
 -- encode: the block is lent, a workspace of so many bytes and an output of so many
 abbrev pub encodeChecks : ℕ → List ℕ → ℕ → ℕ → List Check
@@ -27,7 +27,7 @@ encodeNumber f block workRoom outRoom = firstFailed (encodeChecks f block workRo
 unfoldable pub encodeWorkspace : ℕ → List ℕ → List ℕ → List ℕ → List ℕ
 encodeWorkspace f block work out =
     if eqb (encodeNumber f block (length work) (length out)) passed
-    then outer block ++ drop (formatOf f .i) work
+    then outer (trellisPart f block) ++ drop (formatOf f .i) work
     else work
 
 unfoldable pub encodeOutput : ℕ → List ℕ → List ℕ → List ℕ → List ℕ

@@ -17,7 +17,9 @@ pub fn encode(format: u64, block: &[u8], work: &mut [u8], out: &mut [u8]) -> u8
     if number != checks::PASSED {
         return number;
     }
-    trellis::steps::outer(block, work);
+    let f = acm::steps::parameters(format);
+    let k1 = f.k1;
+    trellis::steps::outer(&block[..k1], work);
     inner::steps::encode(format, work, out);
     checks::PASSED
 }

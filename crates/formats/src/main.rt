@@ -18,7 +18,7 @@ fn print_line(format: u64) {
     let acm::Found::Record(f) = acm::lookup(format) else {
         return;
     };
-    io::print_decimal(STDOUT_FILENO, format);
+    io::print_decimal(STDOUT_FILENO, f.number);
     print_field(f.m);
     print_field(f.k);
     print_field(f.i);

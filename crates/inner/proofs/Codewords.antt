@@ -1,4 +1,4 @@
--- The codeword of the outer kept bits: how long its registers are, that they are bits, and that it depends on the first I bits alone.
+-- The codeword's trellis part: how long its registers are, that they are bits, and that it depends on the first I outer kept bits alone.
 use mathlib.Core.Path.{_≡_, ap, _∙_}
 use mathlib.Core.Bool.{true}
 use mathlib.Core.List.{List, _++_}
@@ -8,7 +8,7 @@ use lib.ListN.{length, length-append}
 use Rattle.bits.specs.Legal.{allBits}
 use Rattle.bits.specs.Permutation.{Permutes}
 use Rattle.bits.proofs.Legal.{legal-append}
-use Rattle.acm.specs.Formats.{isFormat, formatOf}
+use Rattle.acm.specs.Formats.{isFormat, formatOf, N1}
 use Rattle.acm.specs.declared.table.Format.{Format}
 use Rattle.acm.proofs.Laws.{format-sound}
 use Rattle.trellis.specs.Trellis.{zero-state, ends, parities, termination}
@@ -31,7 +31,7 @@ module _ (f : ℕ) (h : isFormat f ≡ true) (ρ : ℕ → ℕ) (p : Permutes (f
   upper-long =
       length-append (punctured (r .survivors) ρ bits) (termination (ends zero-state bits)) ∙ count.upper-length f h ρ p bits e
 
-  pub lower-long : r .s + length (lower (r .i) (r .delta) bits) ≡ r .n
+  pub lower-long : r .s + length (lower (r .i) (r .delta) bits) ≡ N1 r
   lower-long =
       let n = length-append (rateMatched (r .i) (r .delta) (parities zero-state bits)) (parities (ends zero-state bits) (termination (ends zero-state bits))) in
       let m = count.lower-length f h (parities zero-state bits) (parities-length zero-state bits ∙ e) in
@@ -44,7 +44,7 @@ module _ (f : ℕ) (h : isFormat f ≡ true) where
   read-long : (kept : List ℕ) → length (read kept) ≡ formatOf f .i
   read-long kept = read-length (π f) kept 0 (formatOf f .i)
 
-  pub from-outer-length : (kept : List ℕ) → length (fromOuter f kept) ≡ formatOf f .n
+  pub from-outer-length : (kept : List ℕ) → length (fromOuter f kept) ≡ N1 (formatOf f)
   unfolding fromOuter
   from-outer-length kept =
       let r = formatOf f in

@@ -1,4 +1,4 @@
--- Linearity: the registers of a sum, and so its codeword, are the sums.
+-- Linearity: the registers of a sum, and so the trellis part of its codeword, are the sums.
 use mathlib.Core.Path.{_≡_, refl, sym, ap, ap₂, _∙_}
 use mathlib.Core.Bool.{Bool, true}
 use mathlib.Core.List.{List, _++_}

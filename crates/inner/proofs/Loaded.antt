@@ -1,4 +1,5 @@
--- A format's tables, loaded: they are what the inner encoder asks to be lent, so what it makes of them is the format's codeword.
+-- A format's tables, loaded: they are what the inner encoder asks to be lent, so what it makes of them is the trellis part of the format's
+-- codeword.
 use mathlib.Core.Path.{_≡_, refl, sym, ap, subst, _∙_}
 use mathlib.Core.Bool.{true}
 use mathlib.Core.List.{List, _++_}
@@ -8,7 +9,7 @@ use native.Mathlib.Omega.{arith}
 use lib.ListN.{length, take, drop}
 use lib.Seq.{sets}
 use Rattle.bits.proofs.Fill.{sets-front}
-use Rattle.acm.specs.Formats.{M, isFormat, formatOf}
+use Rattle.acm.specs.Formats.{M, isFormat, formatOf, N1}
 use Rattle.acm.specs.declared.table.Format.{Format}
 use Rattle.acm.proofs.Laws.{format-sound}
 use Rattle.annex_c.specs.AnnexC.{isSize, sizeOf, widest}
@@ -50,7 +51,7 @@ module _ (f : ℕ) (h : isFormat f ≡ true) {r : Format} (is : r ≡ formatOf f
     β-front = front-β _ loads beta b β-is ∙ ap (λ (w : ℕ). sizeOf w .β) w-is
 
     pub lent-of : {starts residues pat : List ℕ} → Multiples (r .w) (r .i) starts → Multiples (r .w) period residues → LaidOut (r .survivors) pat
-        → (work out : List ℕ) → formatOf f .i ≤ length work → formatOf f .n ≤ length out
+        → (work out : List ℕ) → formatOf f .i ≤ length work → N1 (formatOf f) ≤ length out
         → Lent r (take (r .w) alpha) (take (r .w) beta) starts residues pat work out
     lent-of starts-are residues-are pat-is work out hw ho =
         let w = α-rows (formatOf f .w) (format-size f h) in
@@ -86,8 +87,8 @@ module _ (f : ℕ) (h : isFormat f ≡ true) {r : Format} (is : r ≡ formatOf f
           counter-low = d;
         })
 
-    pub written-is : (work out : List ℕ) → formatOf f .n ≤ length out
-        → sets out 0 (written r (take (r .w) alpha) (take (r .w) beta) work) ≡ fromOuter f work ++ drop (formatOf f .n) out
+    pub written-is : (work out : List ℕ) → N1 (formatOf f) ≤ length out
+        → sets out 0 (written r (take (r .w) alpha) (take (r .w) beta) work) ≡ fromOuter f work ++ drop (N1 (formatOf f)) out
     unfolding π fromOuter
     written-is work out ho =
         let n = from-outer-length f h work in

@@ -10,6 +10,7 @@ use lib.Seq.{sets}
 use Rattle.bits.specs.Choice.{if_then_else_}
 use Rattle.bits.proofs.Cases.{by-cases}
 use Rattle.bits.proofs.Fill.{sets-append}
+use Rattle.acm.specs.Formats.{N1}
 use Rattle.acm.specs.declared.table.Format.{Format}
 use Rattle.trellis.specs.Trellis.{State, zero-state, parity, next, parities, ends, termination}
 use Rattle.puncture.specs.Puncture.{survives, keptAt, counted, counterStart, countedFrom}
@@ -61,7 +62,7 @@ counter-low I Δ c d h =
 module _ (r : Format) (ρ : ℕ → ℕ) (work : List ℕ) where
   -- the loop at time i, in an output of so many bytes that is F once all is stored
   abbrev pub Going : ℕ → List ℕ → List ℕ → ℕ → Coder → Type 0
-  Going room F out i c = Two room (r .s) (r .n) F out (c .upper) (upperLeft r ρ work i c) (c .lower) (lowerLeft r ρ work i c)
+  Going room F out i c = Two room (r .s) (N1 r) F out (c .upper) (upperLeft r ρ work i c) (c .lower) (lowerLeft r ρ work i c)
 
   pub going-start : (out : List ℕ) (i : ℕ) (c : Coder) → Fits r ρ work i c → Going (length out) (completed r ρ work i c out) out i c
   going-start out i c fits = record { same = refl; upper = fits .upper-ends; lower = fits .lower-ends; apart = fits .apart; rest = refl }
@@ -70,7 +71,7 @@ module _ (r : Format) (ρ : ℕ → ℕ) (work : List ℕ) where
     pub going-fits : c .counter < r .i → Fits r ρ work i c
     going-fits low = record { upper-ends = going .upper; lower-ends = going .lower; apart = going .apart; counter-low = low }
 
-    pub going-rooms : r .n ≤ room → (c .upper < length out) × (c .lower < length out)
+    pub going-rooms : N1 r ≤ room → (c .upper < length out) × (c .lower < length out)
     going-rooms fits = (
       two-room-upper fits going (upper-left (r .survivors) ρ i (stateIn c) (reads ρ work (r .i) i)),
       two-room-lower fits going (lower-left (r .i) (r .delta) (c .counter) (stateIn c) (reads ρ work (r .i) i)),
@@ -105,7 +106,7 @@ module _ (r : Format) (ρ : ℕ → ℕ) (work : List ℕ) where
   completed-end : (i : ℕ) (c : Coder) (out : List ℕ) → r .i ≤ i → completed r ρ work i c out ≡ finished c out
   completed-end i c out h = rw (read-end ρ work (r .i) i h)
 
-  end-rooms : (i : ℕ) (c : Coder) → r .i ≤ i → Fits r ρ work i c → (c .upper + 1 < r .n) × (c .lower + 1 < r .n)
+  end-rooms : (i : ℕ) (c : Coder) → r .i ≤ i → Fits r ρ work i c → (c .upper + 1 < N1 r) × (c .lower + 1 < N1 r)
   end-rooms i c h fits =
       let up = ap (λ (l : List ℕ). c .upper + length (upperFrom (r .survivors) ρ i (stateIn c) l)) (read-end ρ work (r .i) i h) in
       let low = ap (λ (l : List ℕ). c .lower + length (lowerFrom (r .i) (r .delta) (c .counter) (stateIn c) l)) (read-end ρ work (r .i) i h) in
@@ -122,7 +123,7 @@ module _ {r : Format} (α β : List ℕ) {work : List ℕ} (at : Progress) (fits
 
 -- and at the last
 module _ {r : Format} {α β work : List ℕ} (at : Progress) (stands : Stands r α β work at) (late : r .i ≤ at .walk .position .0) where
-  pub finish-rooms : {room : ℕ} → r .n ≤ room → (at .coder .upper + 1 < room) × (at .coder .lower + 1 < room)
+  pub finish-rooms : {room : ℕ} → N1 r ≤ room → (at .coder .upper + 1 < room) × (at .coder .lower + 1 < room)
   finish-rooms fits =
       let rooms = end-rooms r (permuted α β) work (at .walk .position .0) (at .coder) late (stands .fits) in
       (omega (arith, rooms .0), omega (arith, rooms .1))

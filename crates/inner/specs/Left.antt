@@ -4,6 +4,7 @@ use mathlib.Core.List.{List, _++_}
 use Prim.Native.Nat.{ℕ, _+_, _-_, _≤_, _<_}
 use lib.ListN.{length}
 use lib.Seq.{sets}
+use Rattle.acm.specs.Formats.{N1}
 use Rattle.acm.specs.declared.table.Format.{Format}
 use Rattle.trellis.specs.Trellis.{State, parities, ends, termination}
 use Rattle.puncture.specs.Puncture.{survives, keptAt, counterStart, countedFrom}
@@ -37,9 +38,9 @@ lowerLeft r ρ kept i c = lowerFrom (r .i) (r .delta) (c .counter) (stateIn c) (
 abbrev pub completed : Format → (ℕ → ℕ) → List ℕ → ℕ → Coder → List ℕ → List ℕ
 completed r ρ kept i c out = sets (sets out (c .upper) (upperLeft r ρ kept i c)) (c .lower) (lowerLeft r ρ kept i c)
 
--- the upper register then ends at S, behind which the lower stands, and the lower at N
+-- the upper register then ends at S, behind which the lower stands, and the lower at N1
 pub record Fits (r : Format) (ρ : ℕ → ℕ) (kept : List ℕ) (i : ℕ) (c : Coder) : Type 0 where
   pub upper-ends : c .upper + length (upperLeft r ρ kept i c) ≡ r .s
-  pub lower-ends : c .lower + length (lowerLeft r ρ kept i c) ≡ r .n
+  pub lower-ends : c .lower + length (lowerLeft r ρ kept i c) ≡ N1 r
   pub apart : r .s ≤ c .lower
   pub counter-low : c .counter < r .i

@@ -1,10 +1,11 @@
 -- What the inner encoder asks of the memory lent to it: the format's record, the vectors α and β of its interleaver with the tables of
--- multiples of W, its puncturing pattern laid out, the outer kept bits at the front of a workspace, and an output with room for the codeword.
+-- multiples of W, its puncturing pattern laid out, the outer kept bits at the front of a workspace, and an output with room for the
+-- codeword's trellis part.
 use mathlib.Core.Path.{_≡_}
 use mathlib.Core.List.{List}
 use Prim.Native.Nat.{ℕ, _*_, _≤_, _<_}
 use lib.ListN.{length}
-use Rattle.acm.specs.Formats.{M}
+use Rattle.acm.specs.Formats.{M, N1}
 use Rattle.acm.specs.declared.table.Format.{Format}
 use Rattle.annex_c.specs.AnnexC.{Vectors}
 use Rattle.interleaver.specs.Interleaver.{permuted}
@@ -22,7 +23,7 @@ pub record Lent (r : Format) (α β starts residues pat work out : List ℕ) : T
   pub pattern-is : LaidOut (r .survivors) pat
   pub outer-bits : r .i ≤ length work
   pub deletes : r .delta < r .i
-  pub room : r .n ≤ length out
+  pub room : N1 r ≤ length out
 
 -- a run over the positions stands where its registers fit, with the row and column of its position
 pub record Stands (r : Format) (α β work : List ℕ) (at : Progress) : Type 0 where
@@ -33,6 +34,6 @@ pub record Stands (r : Format) (α β work : List ℕ) (at : Progress) : Type 0 
 abbrev pub completes : Format → List ℕ → List ℕ → List ℕ → Progress → List ℕ → List ℕ
 completes r α β work at out = completed r (permuted α β) work (at .walk .position .0) (at .coder) out
 
--- the codeword of a format's record, by the vectors of its interleaver
+-- the trellis part of a codeword, by the format's record and the vectors of its interleaver
 abbrev pub written : Format → List ℕ → List ℕ → List ℕ → List ℕ
 written r α β work = registers r (permuted α β) (interleaved r (permuted α β) work)

@@ -1,4 +1,4 @@
--- From the outer kept bits to the codeword (4.3, 4.4): the inner trellis over the interleaved bits, and the two registers.
+-- From the outer kept bits to the codeword's trellis part (4.3, 4.4): the inner trellis over the interleaved bits, and the two registers.
 use mathlib.Core.List.{List, [], _∷_, _++_}
 use Prim.Native.Nat.{ℕ, zero, suc, _+_}
 use lib.ListN.{getD}
@@ -30,6 +30,6 @@ registers r ρ bits = upper (r .survivors) ρ bits ++ lower (r .i) (r .delta) bi
 abbrev pub interleaved : Format → (ℕ → ℕ) → List ℕ → List ℕ
 interleaved r ρ kept = readFrom ρ kept 0 (r .i)
 
--- the codeword of the outer kept bits, in ACM format f, whose interleaver is π f
+-- the trellis part of a codeword, N1 bits, from the outer kept bits, in ACM format f, whose interleaver is π f
 unfoldable pub fromOuter : ℕ → List ℕ → List ℕ
 fromOuter f kept = registers (formatOf f) (π f) (interleaved (formatOf f) (π f) kept)

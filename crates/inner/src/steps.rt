@@ -6,7 +6,7 @@ ghost use mathlib.Core.List.{_++_};
 ghost use Prim.Native.Nat.{ℕ, _+_, _*_, _≤_, _<_};
 ghost use lib.ListN.{length, drop};
 ghost use lib.Seq.{sets};
-ghost use Rattle.acm.specs.Formats.{isFormat, formatOf};
+ghost use Rattle.acm.specs.Formats.{isFormat, formatOf, N1};
 ghost use Rattle.trellis.specs.Trellis.{ends};
 ghost use Rattle.interleaver.specs.Interleaver.{permuted};
 ghost use Rattle.interleaver.specs.Walk.{Walked};
@@ -18,10 +18,10 @@ use acm::Format;
 use coder::steps::Coder;
 use interleaver::steps::Walk;
 
-// The codeword of the outer kept bits at the front of work, to the front of out.
+// The codeword's trellis part, of the outer kept bits at the front of work, to the front of out.
 pub fn encode(format: u64, work: &[u8], out: &mut [u8])
-    requires { ⌜ (isFormat format ≡ true) × (formatOf format .i ≤ length (now work)) × (formatOf format .n ≤ length (now out)) ⌝ }
-    ensures { λ _. ⌜ now (out .exit) ≡ fromOuter format (now (work .entry)) ++ drop (formatOf format .n) (now (out .entry)) ⌝ }
+    requires { ⌜ (isFormat format ≡ true) × (formatOf format .i ≤ length (now work)) × (N1 (formatOf format) ≤ length (now out)) ⌝ }
+    ensures { λ _. ⌜ now (out .exit) ≡ fromOuter format (now (work .entry)) ++ drop (N1 (formatOf format)) (now (out .entry)) ⌝ }
 {
     let f = acm::steps::parameters(format);
     let w = f.w;

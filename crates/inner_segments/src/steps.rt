@@ -6,7 +6,7 @@ ghost use Prim.Native.Nat.{_*_, _≤_};
 ghost use lib.ListN.{length, drop};
 ghost use lib.Seq.{sets};
 ghost use Rattle.bits.specs.Legal.{allBits};
-ghost use Rattle.acm.specs.Formats.{M, isFormat, formatOf};
+ghost use Rattle.acm.specs.Formats.{M, isFormat, formatOf, N1};
 ghost use Rattle.annex_c.specs.AnnexC.{Vectors};
 ghost use Rattle.trellis.specs.Trellis.{stateNumber, stateOf, ends};
 ghost use Rattle.interleaver.specs.Interleaver.{permuted, π};
@@ -23,13 +23,14 @@ use cuts::States;
 use inner::steps::Progress;
 use interleaver::steps::Walk;
 
-// The codeword of the outer kept bits at the front of work, to the front of out, by the segments between cuts of the interleaved bits.
+// The codeword's trellis part, of the outer kept bits at the front of work, to the front of out, by the segments between cuts of the interleaved
+// bits.
 // Answers the states of the segments.
 pub fn encode(format: u64, cuts: &[u16], work: &[u8], out: &mut [u8]) -> States
-    requires { ⌜ (isFormat format ≡ true) × (formatOf format .i ≤ length (now work)) × (formatOf format .n ≤ length (now out)) ⌝ }
+    requires { ⌜ (isFormat format ≡ true) × (formatOf format .i ≤ length (now work)) × (N1 (formatOf format) ≤ length (now out)) ⌝ }
     requires { ⌜ Cuts (formatOf format .i) (now cuts) × (allBits (interleaved (formatOf format) (π format) (now work)) ≡ true) ⌝ }
     ensures { λ r. ⌜ r ≡ statesOf (now (cuts .entry)) (interleaved (formatOf format) (π format) (now (work .entry))) ⌝ }
-    ensures { λ _. ⌜ now (out .exit) ≡ fromOuter format (now (work .entry)) ++ drop (formatOf format .n) (now (out .entry)) ⌝ }
+    ensures { λ _. ⌜ now (out .exit) ≡ fromOuter format (now (work .entry)) ++ drop (N1 (formatOf format)) (now (out .entry)) ⌝ }
 {
     let f = acm::steps::parameters(format);
     let w = f.w;

@@ -1,4 +1,4 @@
--- How many bits each register keeps, over the format: S, P and N of table 4-3.
+-- How many bits each register keeps, over the format: S and P of table 4-3, and N1.
 use mathlib.Core.Path.{_≡_, refl, sym, ap, _∙_}
 use mathlib.Core.Bool.{Bool, true}
 use mathlib.Core.List.{List, [], _∷_}
@@ -9,7 +9,7 @@ use lib.Dec.{eqb}
 use lib.ListN.{length, getD}
 use Rattle.bits.specs.Permutation.{Permutes}
 use Rattle.bits.proofs.Table.{every, below}
-use Rattle.acm.specs.Formats.{formats, formatOf, lastFormat, isFormat}
+use Rattle.acm.specs.Formats.{formats, formatOf, lastFormat, isFormat, P, N1}
 use Rattle.acm.specs.declared.table.Format.{Format}
 use Rattle.acm.proofs.Laws.{format-sound, format-test}
 use Rattle.puncture.specs.Puncture.{period, pattern, survives, punctured, rateMatched}
@@ -36,8 +36,8 @@ printed-P =
     4303 ∷ 2698 ∷ 9234 ∷ 7558 ∷ 6093 ∷ 4685 ∷ 3171 ∷
     []
 
--- P = I - Δ + 2 and S + P = N, in every line
-printed-P-right : every (λ g P. eqb (formatOf (suc g) .i - formatOf (suc g) .delta + 2) P) 0 printed-P ≡ true
+-- P = I - Δ + 2, in every line
+printed-P-right : every (λ g printed. eqb (P (formatOf (suc g))) printed) 0 printed-P ≡ true
 unfolding formatOf formats
 printed-P-right = refl
 
@@ -62,14 +62,14 @@ module _ (f : ℕ) (h : isFormat f ≡ true) where
       let split : places test (r .i) ≡ places test (r .i % period) + r .i / period * places test period =
       ap (places test) (sym whole) ∙ places-periods period test (repeats S) (r .i / period) (r .i % period) in
       let told : places test (r .i % period) + r .i / period * places test period + 2 ≡ r .s =
-      eqb-true _ _ (format-test (λ r. keeps-S r (pattern (r .survivors))) tested f h) in
+      eqb-true _ _ (format-test (λ f. keeps-S (formatOf f) (pattern (formatOf f .survivors))) tested f h) in
       ap (λ (k : ℕ). k + 2) (n ∙ ap (places (λ i. test (π i))) e ∙ places-permuted (r .i) π p test ∙ split) ∙ told
 
   pub lower-length : (bits : List ℕ) → length bits ≡ r .i → length (rateMatched (r .i) (r .delta) bits) ≡ r .i - r .delta
   lower-length bits e = rate-matched-length (r .i) (r .delta) bits (format-sound f h .deletes) e
 
-  -- with the two terminating bits of each, the registers keep N bits
+  -- with the two terminating bits of each, the registers keep N1 bits
   pub kept-total : (π : ℕ → ℕ) → Permutes (r .i) π → (upper lower : List ℕ) → length upper ≡ r .i → length lower ≡ r .i
-      → (length (punctured (r .survivors) π upper) + 2) + (length (rateMatched (r .i) (r .delta) lower) + 2) ≡ r .n
+      → (length (punctured (r .survivors) π upper) + 2) + (length (rateMatched (r .i) (r .delta) lower) + 2) ≡ N1 r
   kept-total π p upper lower eu el =
       omega (arith, upper-length π p upper eu, lower-length lower el, format-sound f h .total)

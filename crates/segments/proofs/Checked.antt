@@ -43,18 +43,18 @@ module _ (f : ℕ) (block : List ℕ) (workRoom outRoom : ℕ) (outerCuts innerC
       many-inner i = rw (← cuts-later encodes, o, i)
 
       module _ (i : isFew innerCuts ≡ true) {r : Format} (is : r ≡ formatOf f) where
-        pub bad-outer : isInside (r .k) outerCuts ≡ false → badCut ≡ segmentsNumber f block workRoom outRoom outerCuts innerCuts
+        pub bad-outer : isInside (r .k1) outerCuts ≡ false → badCut ≡ segmentsNumber f block workRoom outRoom outerCuts innerCuts
         bad-outer p = rw (← cuts-later encodes, o, i, ← is, p)
 
-        pub bad-inner : isInside (r .k) outerCuts ≡ true → isInside (r .i) innerCuts ≡ false → badCut ≡ segmentsNumber f block workRoom outRoom outerCuts innerCuts
+        pub bad-inner : isInside (r .k1) outerCuts ≡ true → isInside (r .i) innerCuts ≡ false → badCut ≡ segmentsNumber f block workRoom outRoom outerCuts innerCuts
         bad-inner p q = rw (← cuts-later encodes, o, i, ← is, p, q)
 
-        pub all-sound : isInside (r .k) outerCuts ≡ true → isInside (r .i) innerCuts ≡ true → passed ≡ segmentsNumber f block workRoom outRoom outerCuts innerCuts
+        pub all-sound : isInside (r .k1) outerCuts ≡ true → isInside (r .i) innerCuts ≡ true → passed ≡ segmentsNumber f block workRoom outRoom outerCuts innerCuts
         all-sound p q = rw (← cuts-later encodes, o, i, ← is, p, q)
 
   pub record SegmentsPassed : Type 0 where
     pub encodes : encodeNumber f block workRoom outRoom ≡ passed
-    pub outer-cuts : Cuts (formatOf f .k) outerCuts
+    pub outer-cuts : Cuts (formatOf f .k1) outerCuts
     pub inner-cuts : Cuts (formatOf f .i) innerCuts
 
   pub segments-passed : segmentsNumber f block workRoom outRoom outerCuts innerCuts ≡ passed → SegmentsPassed
@@ -68,16 +68,16 @@ module _ (f : ℕ) (block : List ℕ) (workRoom outRoom : ℕ) (outerCuts innerC
         encodes = encodes;
         outer-cuts = record {
           few = left-true (isFew outerCuts) (isFew innerCuts) few;
-          inside = left-true (isInside (formatOf f .k) outerCuts) (isInside (formatOf f .i) innerCuts) inside;
+          inside = left-true (isInside (formatOf f .k1) outerCuts) (isInside (formatOf f .i) innerCuts) inside;
         };
         inner-cuts = record {
           few = right-true (isFew outerCuts) (isFew innerCuts) few;
-          inside = right-true (isInside (formatOf f .k) outerCuts) (isInside (formatOf f .i) innerCuts) inside;
+          inside = right-true (isInside (formatOf f .k1) outerCuts) (isInside (formatOf f .i) innerCuts) inside;
         };
       }
 
 -- with cuts that pass their checks the call is encode
-module _ (f : ℕ) (block : List ℕ) (outerCuts innerCuts : List ℕ) (o : Cuts (formatOf f .k) outerCuts) (i : Cuts (formatOf f .i) innerCuts) where
+module _ (f : ℕ) (block : List ℕ) (outerCuts innerCuts : List ℕ) (o : Cuts (formatOf f .k1) outerCuts) (i : Cuts (formatOf f .i) innerCuts) where
   pub plain-number : (workRoom outRoom : ℕ) → segmentsNumber f block workRoom outRoom outerCuts innerCuts ≡ encodeNumber f block workRoom outRoom
   plain-number workRoom outRoom =
       let n = encodeNumber f block workRoom outRoom in
@@ -98,10 +98,10 @@ module _ (f : ℕ) (block : List ℕ) (outerCuts innerCuts : List ℕ) (o : Cuts
       let n = encodeNumber f block (length work) (length out) in
       rw (plain-number (length work) (length out)) (by-cases (eqb n passed) (λ t. rw t) (λ h. rw h))
 
--- the interleaved bits of a workspace with the outer kept bits of a block at its front
-module _ (f : ℕ) (known : isFormat f ≡ true) (block rest : List ℕ) (long : length (outer block) ≡ formatOf f .i) where
-  pub work-read : interleaved (formatOf f) (π f) (outer block ++ rest) ≡ interleaved (formatOf f) (π f) (outer block)
-  work-read = interleaved-front f known (outer block) rest long
+-- the interleaved bits of a workspace with the outer kept bits of a list at its front
+module _ (f : ℕ) (known : isFormat f ≡ true) (bits rest : List ℕ) (long : length (outer bits) ≡ formatOf f .i) where
+  pub work-read : interleaved (formatOf f) (π f) (outer bits ++ rest) ≡ interleaved (formatOf f) (π f) (outer bits)
+  work-read = interleaved-front f known (outer bits) rest long
 
-  pub work-bits : allBits block ≡ true → allBits (interleaved (formatOf f) (π f) (outer block ++ rest)) ≡ true
-  work-bits h = rw work-read (read-bits (π f) (outer block) (outer-bits block h) 0 (formatOf f .i))
+  pub work-bits : allBits bits ≡ true → allBits (interleaved (formatOf f) (π f) (outer bits ++ rest)) ≡ true
+  work-bits h = rw work-read (read-bits (π f) (outer bits) (outer-bits bits h) 0 (formatOf f .i))

@@ -10,6 +10,7 @@ use Rattle.acm.specs.Formats.{formatOf}
 use Rattle.trellis.specs.Trellis.{outer}
 use Rattle.interleaver.specs.Interleaver.{π}
 use Rattle.inner.specs.Registers.{interleaved}
+use Rattle.encoder.specs.Codeword.{trellisPart}
 use Rattle.encoder.specs.Calls.{encodeNumber, encodeWorkspace, encodeOutput}
 use Rattle.cuts.specs.Cuts.{isFew, isInside, statesOf, noStates}
 use Rattle.segments.specs.declared.Segmented.{Segmented}
@@ -18,7 +19,7 @@ use Rattle.segments.specs.declared.Segmented.{Segmented}
 abbrev pub cutsChecks : ℕ → List ℕ → List ℕ → List Check
 cutsChecks f outerCuts innerCuts =
     (isFew outerCuts && isFew innerCuts) or-else manyCuts
-    ∷ (isInside (formatOf f .k) outerCuts && isInside (formatOf f .i) innerCuts) or-else badCut
+    ∷ (isInside (formatOf f .k1) outerCuts && isInside (formatOf f .i) innerCuts) or-else badCut
     ∷ []
 
 -- behind those of encode
@@ -31,14 +32,14 @@ segmentsNumber f block workRoom outRoom outerCuts innerCuts =
 abbrev pub refused : ℕ → Segmented
 refused number = record { number = number; outer = noStates; inner = noStates }
 
--- the input of the outer trellis is the block, that of the inner one the interleaved outer kept bits
+-- the input of the outer trellis is the trellis part of the block, that of the inner one the interleaved outer kept bits
 unfoldable pub segmented : ℕ → List ℕ → ℕ → ℕ → List ℕ → List ℕ → Segmented
 segmented f block workRoom outRoom outerCuts innerCuts =
     if eqb (segmentsNumber f block workRoom outRoom outerCuts innerCuts) passed
     then record {
       number = passed;
-      outer = statesOf outerCuts block;
-      inner = statesOf innerCuts (interleaved (formatOf f) (π f) (outer block));
+      outer = statesOf outerCuts (trellisPart f block);
+      inner = statesOf innerCuts (interleaved (formatOf f) (π f) (outer (trellisPart f block)));
     }
     else refused (segmentsNumber f block workRoom outRoom outerCuts innerCuts)
 

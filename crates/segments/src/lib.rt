@@ -15,7 +15,7 @@ pub struct Segmented {
 
 // The codeword of an information block, by segments: the input of the outer trellis is cut at `outer`, that of the inner one at `inner`.
 // Checks: 1, 2, 3, 4, 5, as encode's; 12, each list has at most fifteen cuts; 13, in each list no cut falls below the one before it, and
-// none is above the input's length, K for the outer and I for the inner.
+// none is above the input's length, K1 for the outer and I for the inner.
 // Afterwards the buffers are as encode leaves them; on refusal all bytes are as they were, and all states are 0.
 pub fn encode_segments(
     format: u64,
@@ -37,7 +37,9 @@ pub fn encode_segments(
             inner: cuts::steps::no_states(),
         };
     }
-    let of_outer = outer_segments::steps::encode(block, outer, work);
+    let f = acm::steps::parameters(format);
+    let k1 = f.k1;
+    let of_outer = outer_segments::steps::encode(&block[..k1], outer, work);
     let of_inner = inner_segments::steps::encode(format, inner, work, out);
     Segmented {
         number: checks::PASSED,
@@ -68,7 +70,7 @@ fn check_segments(
         return checks::CUT_COUNT;
     }
     let f = acm::steps::parameters(format);
-    if !cuts::inside(f.k, outer) {
+    if !cuts::inside(f.k1, outer) {
         return checks::CUT_PLACE;
     }
     if !cuts::inside(f.i, inner) {

@@ -4,18 +4,17 @@ use mathlib.Core.List.{List, _++_}
 use Prim.Native.Nat.{ℕ}
 use native.Mathlib.Omega.{arith}
 use borrow.Author.Needs.{needs}
-use lib.ListN.{length, drop}
+use lib.ListN.{length, take, drop, length-take}
 use Rattle.bits.specs.Checks.{passed}
 use Rattle.bits.proofs.Passed.{when-passed, when-refused}
-use Rattle.acm.specs.Formats.{formatOf}
-use Rattle.acm.proofs.Laws.{format-sound}
+use Rattle.acm.specs.Formats.{formatOf, N1}
+use Rattle.acm.specs.declared.table.Format.{Format}
 use Rattle.trellis.specs.Trellis.{outer}
 use Rattle.inner.specs.Registers.{fromOuter}
-use Rattle.inner.proofs.Codewords.{from-outer-front}
-use Rattle.encoder.specs.Codeword.{codeword}
+use Rattle.encoder.specs.Codeword.{trellisPart}
 use Rattle.encoder.specs.Calls.{encodeNumber, encodeWorkspace, encodeOutput}
 use Rattle.encoder.proofs.Checked.{EncodePassed, encode-passed}
-use Rattle.encoder.proofs.Codewords.{outer-long}
+use Rattle.encoder.proofs.Codewords.{part-fits, part-even, outer-long, trellis-room, trellis-written}
 use Rattle.encoder.proofs.encode.Statement.{statement}
 use Rattle.encoder.proofs.encode.Tie as tie
 
@@ -26,13 +25,23 @@ start k = k .before .before .before .before
 abbrev written : tie.After-encode-arg2 → tie.After-outer
 written c = c .before .before .before .before
 
--- what a call that has passed knows of its arguments, and how many outer bits are kept
-module _ (c : tie.Else1) where
-  passed-of : (let a = start (c .before) .args in EncodePassed (a .format) (a .block .now) (length (a .work .now)) (length (a .out .now)))
-  passed-of = encode-passed _ _ _ _ (sym (c .before .check-encode .ensures) ∙ c .if1 .left)
+abbrev lent : tie.After-outer → tie.After-parameters
+lent w = w .before .before .before
 
-  long-of : (let a = start (c .before) .args in length (outer (a .block .now)) ≡ formatOf (a .format) .i)
-  long-of = outer-long _ (passed-of .known) (start (c .before) .args .block .now) (passed-of .long)
+-- what a call that has passed knows of its arguments
+passed-of : (c : tie.Else1) → (let a = start (c .before) .args in EncodePassed (a .format) (a .block .now) (length (a .work .now)) (length (a .out .now)))
+passed-of c = encode-passed _ _ _ _ (sym (c .before .check-encode .ensures) ∙ c .if1 .left)
+
+-- the part of the block that is lent to the outer trellis, and how many of its bits are kept
+module _ (p : tie.After-parameters) where
+  abbrev s : tie.Start
+  s = start (p .before .before)
+
+  part-is : take (p .parameters .result .k1) (s .args .block .now) ≡ trellisPart (s .args .format) (s .args .block .now)
+  part-is = ap (λ (r : Format). take (r .k1) (s .args .block .now)) (p .parameters .ensures)
+
+  long-of : length (outer (trellisPart (s .args .format) (s .args .block .now))) ≡ formatOf (s .args .format) .i
+  long-of = outer-long _ (passed-of (p .before) .known) (s .args .block .now) (passed-of (p .before) .long)
 
 -- a refused call's number is not 0
 refused : (c : tie.Then1)
@@ -48,18 +57,26 @@ returns c =
     let k = c .before in
     (k .check-encode .ensures, (when-refused _ _ _ (refused c), when-refused _ _ _ (refused c)))
 
+parameters-requires : tie.Need-parameters-requires
+parameters-requires c κs = passed-of c .known
+
+slice-aggregate-outer : tie.Need-slice-aggregate-outer
+slice-aggregate-outer c =
+    let p = c .before in
+    let h = passed-of (p .before) in
+    simp length-take (omega (arith, ap (λ (r : Format). r .k1) (p .parameters .ensures), part-fits _ (h .known) (s p .args .block .now) (h .long)))
+
 outer-requires : tie.Need-outer-requires
 outer-requires c κs =
-    let d = c .before in
-    let p = passed-of d in
-    let f = start (d .before) .args .format in
-    (omega (arith, p .long, format-sound f (p .known) .even), omega (arith, long-of d, p .work-fits))
+    let p = c .before .before in
+    let h = passed-of (p .before) in
+    rw (part-is p) (part-even _ (h .known) (s p .args .block .now) (h .long), omega (arith, long-of p, h .work-fits))
 
 encode-requires : tie.Need-encode-requires
 encode-requires c κs =
     let w = written c in
-    let p = passed-of (w .before .before) in
-    (p .known, omega (arith, w .outer .kept .1 .0, p .work-fits), p .out-fits)
+    let h = passed-of (lent w .before) in
+    (h .known, omega (arith, w .outer .kept .1 .0, h .work-fits), trellis-room _ (h .known) (h .out-fits))
 
 same-length : tie.Need-same-length
 same-length c = search needs
@@ -68,20 +85,21 @@ same-length-2 : tie.Need-same-length-2
 same-length-2 c = search needs
 
 returns-2 : tie.Need-returns-2
-unfolding encodeWorkspace encodeOutput codeword
+unfolding encodeWorkspace encodeOutput
 returns-2 c =
     let w = written (c .before .before .before) in
-    let d = w .before .before in
-    let a = start (d .before) .args in
-    let p = passed-of d in
+    let p = lent w in
+    let d = p .before in
+    let a = s p .args in
+    let h = passed-of d in
     let e = sym (d .before .check-encode .ensures) ∙ d .if1 .left in
-    let work = w .outer .ensures in (
+    let work = w .outer .ensures ∙ ap (λ (l : List ℕ). outer l ++ drop (length (outer l)) (a .work .now)) (part-is p) in (
       sym e,
       (
-        work ∙ ap (λ (n : ℕ). outer (a .block .now) ++ drop n (a .work .now)) (long-of d) ∙ when-passed _ _ _ e,
+        work ∙ ap (λ (n : ℕ). outer (trellisPart (a .format) (a .block .now)) ++ drop n (a .work .now)) (long-of p) ∙ when-passed _ _ _ e,
         c .before .before .encode .ensures
-            ∙ ap (λ (l : List ℕ). fromOuter (a .format) l ++ drop (formatOf (a .format) .n) (a .out .now)) work
-            ∙ ap (λ (l : List ℕ). l ++ drop (formatOf (a .format) .n) (a .out .now)) (from-outer-front (a .format) (p .known) (outer (a .block .now)) _ (long-of d))
+            ∙ ap (λ (l : List ℕ). fromOuter (a .format) l ++ drop (N1 (formatOf (a .format))) (a .out .now)) work
+            ∙ trellis-written (a .format) (h .known) (a .block .now) (h .long) _ (a .out .now)
             ∙ when-passed _ _ _ e,
       ),
     )
@@ -92,6 +110,8 @@ encode-spec =
     (tie.spec
     check-encode-requires
     returns
+    parameters-requires
+    slice-aggregate-outer
     outer-requires
     encode-requires
     same-length

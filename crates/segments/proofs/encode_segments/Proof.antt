@@ -4,19 +4,19 @@ use mathlib.Core.List.{List, _++_}
 use Prim.Native.Nat.{ℕ}
 use native.Mathlib.Omega.{arith}
 use borrow.Author.Needs.{needs}
-use lib.ListN.{length, drop}
+use lib.ListN.{length, take, drop, length-take}
 use Rattle.bits.specs.Checks.{passed}
+use Rattle.bits.proofs.Legal.{legal-take}
 use Rattle.bits.proofs.Passed.{when-passed, when-refused}
-use Rattle.acm.specs.Formats.{formatOf}
-use Rattle.acm.proofs.Laws.{format-sound}
+use Rattle.acm.specs.Formats.{formatOf, N1}
+use Rattle.acm.specs.declared.table.Format.{Format}
 use Rattle.trellis.specs.Trellis.{outer}
 use Rattle.interleaver.specs.Interleaver.{π}
 use Rattle.inner.specs.Registers.{interleaved, fromOuter}
-use Rattle.inner.proofs.Codewords.{from-outer-front}
-use Rattle.encoder.specs.Codeword.{codeword}
+use Rattle.encoder.specs.Codeword.{trellisPart}
 use Rattle.encoder.specs.Calls.{encodeWorkspace, encodeOutput}
 use Rattle.encoder.proofs.Checked.{EncodePassed, encode-passed}
-use Rattle.encoder.proofs.Codewords.{outer-long}
+use Rattle.encoder.proofs.Codewords.{part-fits, part-long, part-even, outer-long, trellis-room, trellis-written}
 use Rattle.cuts.specs.Cuts.{Cuts, statesOf}
 use Rattle.cuts.specs.declared.States.{States}
 use Rattle.segments.specs.Calls.{segmentsNumber, refused as refusal, segmented, segmentsWorkspace, segmentsOutput}
@@ -29,8 +29,11 @@ use Rattle.segments.proofs.encode_segments.Tie as tie
 abbrev start : tie.After-check-segments → tie.Start
 start k = k .before .before .before .before .before .before
 
-abbrev written : tie.After-encode-arg3 → tie.After-encode
+abbrev written : tie.After-encode-arg4 → tie.After-encode
 written c = c .before .before .before .before
+
+abbrev lent : tie.After-encode → tie.After-parameters
+lent w = w .before .before .before
 
 -- what a call that has passed knows of its arguments
 module _ (d : tie.Else1) where
@@ -46,8 +49,19 @@ module _ (d : tie.Else1) where
   encodes : EncodePassed (s .args .format) (s .args .block .now) (length (s .args .work .now)) (length (s .args .out .now))
   encodes = encode-passed _ _ _ _ (sound .encodes)
 
-  long : length (outer (s .args .block .now)) ≡ formatOf (s .args .format) .i
-  long = outer-long _ (encodes .known) (s .args .block .now) (encodes .long)
+-- the part of the block that is lent to the outer trellis, and how many of its bits are kept
+module _ (p : tie.After-parameters) where
+  abbrev past : tie.Else1
+  past = p .before
+
+  abbrev part : List ℕ
+  part = trellisPart (s past .args .format) (s past .args .block .now)
+
+  part-is : take (p .parameters .result .k1) (s past .args .block .now) ≡ part
+  part-is = ap (λ (r : Format). take (r .k1) (s past .args .block .now)) (p .parameters .ensures)
+
+  long : length (outer part) ≡ formatOf (s past .args .format) .i
+  long = outer-long _ (encodes past .known) (s past .args .block .now) (encodes past .long)
 
 -- a refused call's number is not 0
 refused : (c : tie.Then1)
@@ -74,27 +88,40 @@ returns c =
       (when-refused _ _ _ (refused r), when-refused _ _ _ (refused r)),
     )
 
+parameters-requires : tie.Need-parameters-requires
+parameters-requires c κs = encodes c .known
+
+slice-aggregate-encode : tie.Need-slice-aggregate-encode
+slice-aggregate-encode c =
+    let p = c .before in
+    let h = encodes (past p) in
+    simp length-take (omega (arith, ap (λ (r : Format). r .k1) (p .parameters .ensures), part-fits _ (h .known) (s (past p) .args .block .now) (h .long)))
+
 encode-requires : tie.Need-encode-requires
 encode-requires c κs =
-    let d = c .before in
-    let p = encodes d in
-    let a = s d .args in (
+    let p = c .before .before in
+    let h = encodes (past p) in
+    let a = s (past p) .args in
+    rw (part-is p) (
       (
-        omega (arith, p .long, format-sound (a .format) (p .known) .even),
-        p .bits,
-        subst (λ (n : ℕ). Cuts n (a .outer .now)) (sym (p .long)) (sound d .outer-cuts),
+        part-even _ (h .known) (a .block .now) (h .long),
+        legal-take 1 (formatOf (a .format) .k1) (a .block .now) (h .bits),
+        subst (λ (n : ℕ). Cuts n (a .outer .now)) (sym (part-long _ (h .known) (a .block .now) (h .long))) (sound (past p) .outer-cuts),
       ),
-      omega (arith, long d, p .work-fits),
+      omega (arith, long p, h .work-fits),
     )
 
 encode-requires-2 : tie.Need-encode-requires-2
 encode-requires-2 c κs =
     let w = written c in
-    let d = w .before .before in
-    let p = encodes d in
-    let a = s d .args in (
-      (p .known, omega (arith, w .encode .kept .1 .1 .0, p .work-fits), p .out-fits),
-      (sound d .inner-cuts, rw (w .encode .ensures .1) (work-bits (a .format) (p .known) (a .block .now) _ (long d) (p .bits))),
+    let p = lent w in
+    let h = encodes (past p) in
+    let a = s (past p) .args in (
+      (h .known, omega (arith, w .encode .kept .1 .1 .0, h .work-fits), trellis-room _ (h .known) (h .out-fits)),
+      (
+        sound (past p) .inner-cuts,
+        rw (w .encode .ensures .1, part-is p) (work-bits (a .format) (h .known) (part p) _ (long p) (legal-take 1 (formatOf (a .format) .k1) (a .block .now) (h .bits))),
+      ),
     )
 
 same-length : tie.Need-same-length
@@ -104,22 +131,24 @@ same-length-2 : tie.Need-same-length-2
 same-length-2 c = search needs
 
 returns-2 : tie.Need-returns-2
-unfolding segmented segmentsWorkspace segmentsOutput encodeWorkspace encodeOutput codeword
+unfolding segmented segmentsWorkspace segmentsOutput encodeWorkspace encodeOutput
 returns-2 c =
     let n = c .before .before in
     let w = written (n .before) in
-    let d = w .before .before in
+    let p = lent w in
+    let d = past p in
     let a = s d .args in
     let f = a .format in
-    let p = encodes d in
-    let work = w .encode .ensures .1 in
-    let inner = n .encode2 .ensures .0 ∙ ap (λ (l : List ℕ). statesOf (a .inner .now) (interleaved (formatOf f) (π f) l)) work ∙ ap (statesOf (a .inner .now)) (work-read f (p .known) (a .block .now) _ (long d)) in (
-      ap₂ {C = Segmented} (λ (o i : States). (record { number = passed; outer = o; inner = i })) (w .encode .ensures .0) inner ∙ when-passed _ _ _ (zero d),
+    let h = encodes d in
+    let outer-states = w .encode .ensures .0 ∙ ap (statesOf (a .outer .now)) (part-is p) in
+    let work = w .encode .ensures .1 ∙ ap (λ (l : List ℕ). outer l ++ drop (length (outer l)) (a .work .now)) (part-is p) in
+    let inner-states = n .encode2 .ensures .0 ∙ ap (λ (l : List ℕ). statesOf (a .inner .now) (interleaved (formatOf f) (π f) l)) work ∙ ap (statesOf (a .inner .now)) (work-read f (h .known) (part p) _ (long p)) in (
+      ap₂ {C = Segmented} (λ (o i : States). (record { number = passed; outer = o; inner = i })) outer-states inner-states ∙ when-passed _ _ _ (zero d),
       (
-        work ∙ ap (λ (n : ℕ). outer (a .block .now) ++ drop n (a .work .now)) (long d) ∙ when-passed _ _ _ (sound d .encodes) ∙ when-passed _ _ _ (zero d),
+        work ∙ ap (λ (n : ℕ). outer (part p) ++ drop n (a .work .now)) (long p) ∙ when-passed _ _ _ (sound d .encodes) ∙ when-passed _ _ _ (zero d),
         n .encode2 .ensures .1
-            ∙ ap (λ (l : List ℕ). fromOuter f l ++ drop (formatOf f .n) (a .out .now)) work
-            ∙ ap (λ (l : List ℕ). l ++ drop (formatOf f .n) (a .out .now)) (from-outer-front f (p .known) (outer (a .block .now)) _ (long d))
+            ∙ ap (λ (l : List ℕ). fromOuter f l ++ drop (N1 (formatOf f)) (a .out .now)) work
+            ∙ trellis-written f (h .known) (a .block .now) (h .long) _ (a .out .now)
             ∙ when-passed _ _ _ (sound d .encodes) ∙ when-passed _ _ _ (zero d),
       ),
     )
@@ -132,6 +161,8 @@ encode-segments-spec =
     no-states-requires
     no-states-requires-2
     returns
+    parameters-requires
+    slice-aggregate-encode
     encode-requires
     encode-requires-2
     same-length
