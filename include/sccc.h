@@ -5,7 +5,8 @@
  *
  * Data      A bit is a byte, 0 or 1. A label is a byte below 2^m. A slot of a frame is a uint16_t,
  *           and so is a cut of a trellis' input. An octet of a transfer frame is a byte. Places and
- *           positions count from 0. K, I, W, N and m are those of the ACM format.
+ *           positions count from 0. K, K1, I, W, N and m are those of the ACM format; K1 is K in
+ *           formats 1 to 27.
  *
  * Answers   A call makes its checks in the order that is given with it. The number of the first
  *           one that fails is the answer, 0 if none does. Every argument has an answer: a number
@@ -70,9 +71,13 @@ extern "C" {
 #define SCCC_MOST_TRANSFER_FRAME 65536 /* and at most */
 #define SCCC_WAITING_MEMORY 600000     /* bytes of the memory in which bits wait, at least */
 
-/* provisional: 1 where the interleaver has rows that stand in for published ones, else 0 */
+/*
+ * provisional: 1 where the interleaver has rows that stand in for published ones, else 0
+ * k1, k2: bits of a block that go through the trellises, its first, and that are coded otherwise
+ * soft: bits of a label that come from the trellises
+ */
 typedef struct {
-    uint64_t number, m, k, i, w, n, provisional;
+    uint64_t number, m, k, i, w, n, provisional, k1, k2, soft;
 } sccc_format_info;
 
 /* state: the state that follows */
@@ -134,7 +139,10 @@ typedef struct {
  * sccc_format: an ACM format's parameters (tables 4-1, 4-3).
  *
  * Computes  m, the bits of a label; K, of a block; I, the length of the interleaver; W = I / 120;
- *           N, the bits of a codeword; and whether the format is provisional (see above).
+ *           N, the bits of a codeword; whether the format is provisional (see above); and the
+ *           soft share: K1, the bits of a block that go through the trellises, K2, those that are
+ *           coded otherwise, and the soft bits, those of a label that come from the trellises.
+ *           K is K1 + K2, and 2 I is 3 (K1 + 2); in formats 1 to 27 the three are K, 0 and m.
  * Checks    1  the format is 1 to 27
  * Success   number is 0, and the other fields are the format's.
  * Refusal   number is the check's, and every other field is 0.
@@ -201,18 +209,19 @@ uint8_t sccc_encode(uint64_t format, const uint8_t *block, size_t block_len, uin
  *
  * Computes  the codeword as encoders in parallel do: each segment of a trellis' input is run from
  *           the zero state, its true starting state is worked out from where those runs end
- *           (equation 6-6), and it is run again from there. The outer trellis' input is the block,
- *           the inner one's the I interleaved bits. A list of cuts makes one segment more than it
- *           has cuts: the first begins at 0 and each other at a cut, and each ends where the next
- *           begins, the last at the input's end. Equal cuts make an empty segment, as do a cut at 0
- *           and one at the end. The two lists may overlap, since neither is written.
+ *           (equation 6-6), and it is run again from there. The outer trellis' input are the first
+ *           K1 bits of the block, the inner one's the I interleaved bits. A list of cuts makes one
+ *           segment more than it has cuts: the first begins at 0 and each other at a cut, and each
+ *           ends where the next begins, the last at the input's end. Equal cuts make an empty
+ *           segment, as do a cut at 0 and one at the end. The two lists may overlap, since neither
+ *           is written.
  * Checks    1   the format is 1 to 27
  *           2   block_len is K
  *           3   each element of block is 0 or 1
  *           4   work_len is at least I
  *           5   out_len is at least N
  *           12  outer_len and inner_len are at most 15
- *           13  no cut is below the one before it in its list, none of outer_cuts is above K, and
+ *           13  no cut is below the one before it in its list, none of outer_cuts is above K1, and
  *               none of inner_cuts above I
  * Success   number is 0. work and out are as sccc_encode leaves them, wherever the cuts are. For
  *           each trellis and each segment, in order from element 0 on, ended is the state

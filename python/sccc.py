@@ -106,6 +106,12 @@ class FormatInfo(NamedTuple):
     n: int
     #: whether the interleaver has rows that stand in for published ones
     provisional: bool
+    #: bits of a block that go through the trellises, its first
+    k1: int
+    #: bits of a block that are coded otherwise: k is k1 + k2
+    k2: int
+    #: bits of a label that come from the trellises
+    soft: int
 
 
 class Step(NamedTuple):
@@ -169,7 +175,7 @@ def format_info(format: SupportsIndex) -> FormatInfo:
     """The parameters of an ACM format. Checks: 1."""
     r = _loaded().sccc_format(_number(format))
     _pass(r.number)
-    return FormatInfo(r.m, r.k, r.i, r.w, r.n, r.provisional != 0)
+    return FormatInfo(r.m, r.k, r.i, r.w, r.n, r.provisional != 0, r.k1, r.k2, r.soft)
 
 
 def step(state: SupportsIndex, bit: SupportsIndex) -> Step:
@@ -219,11 +225,11 @@ def encode_segments(
     work: Optional[Buffer] = None,
     out: Optional[Buffer] = None,
 ) -> Segments:
-    """The codeword of an information block, encoded by segments (section 6), and their states: the outer cuts part the block, the
-    inner ones the interleaved bits. n cuts make n + 1 segments, and equal cuts an empty one; each tuple has n + 1 states.
+    """The codeword of an information block, encoded by segments (section 6), and their states: the outer cuts part the first K1 bits
+    of the block, the inner ones the interleaved bits. n cuts make n + 1 segments, and equal cuts an empty one; each tuple has n + 1 states.
 
     Checks: 1 to 5, as encode; 12, each list has at most fifteen cuts; 13, no cut is below the one before it, none of the outer ones
-    above K, and none of the inner ones above I. What out and work hold afterwards is what encode leaves there.
+    above K1, and none of the inner ones above I. What out and work hold afterwards is what encode leaves there.
     """
     sizes = _loaded().sccc_format(_number(format))
     given, workspace, codeword = _encode_views(sizes, block, work, out)
@@ -361,7 +367,7 @@ class Slicer:
 
 
 class _FormatInfo(ctypes.Structure):
-    _fields_ = [(name, ctypes.c_uint64) for name in ("number", "m", "k", "i", "w", "n", "provisional")]
+    _fields_ = [(name, ctypes.c_uint64) for name in ("number", "m", "k", "i", "w", "n", "provisional", "k1", "k2", "soft")]
 
 
 class _Stepped(ctypes.Structure):

@@ -99,12 +99,15 @@ static void format(void)
 {
     uint64_t f, k = 0, i = 0, n = 0;
     size_t j;
-    CHECK(sizeof(sccc_format_info) == 7 * sizeof(uint64_t));
+    CHECK(sizeof(sccc_format_info) == 10 * sizeof(uint64_t));
+    CHECK(offsetof(sccc_format_info, k1) == 7 * sizeof(uint64_t));
     for (f = 1; f <= SCCC_FORMATS; f++) {
         sccc_format_info r = sccc_format(f);
         CHECK(r.number == SCCC_PASSED);
         CHECK(r.m >= 2 && r.m <= 6);
-        CHECK(2 * r.i == 3 * (r.k + 2));
+        CHECK(r.k1 == r.k && r.k2 == 0 && r.soft == r.m);
+        CHECK(r.k == r.k1 + r.k2);
+        CHECK(2 * r.i == 3 * (r.k1 + 2));
         CHECK(r.i == 120 * r.w);
         CHECK(r.n == SCCC_SYMBOLS * r.m);
         CHECK(r.provisional == STAND_IN(r.i));
@@ -117,7 +120,7 @@ static void format(void)
     for (j = 0; j < LENGTH(not_formats); j++) {
         sccc_format_info r = sccc_format(not_formats[j]);
         CHECK(r.number == SCCC_BAD_FORMAT);
-        CHECK((r.m | r.k | r.i | r.w | r.n | r.provisional) == 0);
+        CHECK((r.m | r.k | r.i | r.w | r.n | r.provisional | r.k1 | r.k2 | r.soft) == 0);
     }
 }
 

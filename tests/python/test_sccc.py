@@ -81,6 +81,8 @@ class Numbers(Case):
         for row in rows:
             info = sccc.format_info(int(row["format"]))
             self.assertEqual(info[:5], tuple(int(row[name]) for name in ("m", "K", "I", "W", "N")))
+            self.assertEqual(info[6:], (int(row["K"]), 0, int(row["m"])))
+            self.assertEqual((info.k1, info.k2, info.soft), info[6:])
 
     def test_provisional_formats(self):
         with open(os.path.join(ROOT, "data", "annex-c.csv"), newline="") as table:

@@ -34,7 +34,18 @@ use Rattle.sccc.specs.declared.stream.LookAnswer.{LookAnswer}
 abbrev pub infoStruct : acm.Answer → Provenance → FormatInfo
 infoStruct a p =
     let f = a .format in
-    record { number = a .number; m = f .m; k = f .k; i = f .i; w = f .w; n = f .n; provisional = p .provisional }
+    record {
+      number = a .number;
+      m = f .m;
+      k = f .k;
+      i = f .i;
+      w = f .w;
+      n = f .n;
+      provisional = p .provisional;
+      k1 = f .k1;
+      k2 = f .k2;
+      soft = f .soft;
+    }
 
 abbrev pub stepStruct : trellis.Stepped → Stepped
 stepStruct s = record { number = s .number; systematic = s .systematic; parity = s .parity; state = s .state }

@@ -23,7 +23,8 @@ pub mod stream;
 // The number in the answer of a call that fails no check.
 const PASSED: u64 = checks::PASSED as u64;
 
-// An ACM format's m, K, I, W and N, and 1 where its interleaver has rows that stand in for published ones, else 0.
+// An ACM format's m, K, I, W and N, 1 where its interleaver has rows that stand in for published ones, else 0, and the soft share: K1, K2 and the
+// soft bits in a label.
 #[repr(C)]
 pub struct FormatInfo {
     pub number: u64,
@@ -33,6 +34,9 @@ pub struct FormatInfo {
     pub w: u64,
     pub n: u64,
     pub provisional: u64,
+    pub k1: u64,
+    pub k2: u64,
+    pub soft: u64,
 }
 
 // The record of an ACM format.
@@ -51,6 +55,9 @@ pub extern "C" fn sccc_format(format: u64) -> FormatInfo
             w: 0,
             n: 0,
             provisional: 0,
+            k1: 0,
+            k2: 0,
+            soft: 0,
         };
     };
     FormatInfo {
@@ -61,6 +68,9 @@ pub extern "C" fn sccc_format(format: u64) -> FormatInfo
         w: f.w as u64,
         n: f.n as u64,
         provisional: provisional(format),
+        k1: f.k1 as u64,
+        k2: f.k2 as u64,
+        soft: f.soft as u64,
     }
 }
 

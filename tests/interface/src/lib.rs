@@ -16,6 +16,9 @@ pub struct FormatInfo {
     pub n: u64,
     /// 1 where the interleaver has rows that stand in for published ones.
     pub provisional: u64,
+    pub k1: u64,
+    pub k2: u64,
+    pub soft: u64,
 }
 
 /// What `sccc_step` gives.

@@ -103,17 +103,19 @@ fn table_4_2(report: &mut Report) {
     );
 }
 
-/// Table 4-3 against the equations of 4.1, 4.4 and document 01.
+/// Table 4-3 with the soft share against the equations of 4.1, 4.4, document 01
+/// and document 02, L7.
 fn table_4_3(report: &mut Report) {
     let numbered = |(i, f): (usize, &Format)| f.number == i as u64 + 1;
     report.check(
         "table 4-3 has the formats 1 to 27",
         tables::formats().len() == 27 && tables::formats().iter().enumerate().all(numbered),
     );
-    report.each_format("2 I = 3 (K + 2)", |f| 2 * f.I == 3 * (f.K + 2));
+    report.each_format("K = K1 + K2", |f| f.K == f.K1 + f.K2);
+    report.each_format("2 I = 3 (K1 + 2)", |f| 2 * f.I == 3 * (f.K1 + 2));
     report.each_format("I = 120 W", |f| f.I == M * f.W());
     report.each_format("N = 8100 m", |f| f.N == SECTION * f.m);
-    report.each_format("S + P = N", |f| f.S + f.P == f.N);
+    report.each_format("S + P = 8100 soft", |f| f.S + f.P == SECTION * f.soft);
     report.each_format("Delta = I - (P - 2)", |f| f.Delta == f.I - (f.P - 2));
 }
 

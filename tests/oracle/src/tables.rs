@@ -102,7 +102,7 @@ pub struct PuncturingEntry {
     pub position: usize,
 }
 
-/// One row of table 4-3.
+/// One row of table 4-3, and the soft share of document 02, L7.
 #[derive(Clone, Copy, Debug, PartialEq, Eq)]
 pub struct Format {
     pub number: u64,
@@ -122,6 +122,12 @@ pub struct Format {
     pub N: usize,
     /// Parity bits deleted by rate matching.
     pub Delta: usize,
+    /// Bits of a block that go through the trellises.
+    pub K1: usize,
+    /// Bits of a block that are coded otherwise.
+    pub K2: usize,
+    /// Bits of one label that come from the trellises.
+    pub soft: usize,
 }
 
 impl Format {
@@ -176,6 +182,10 @@ pub fn formats() -> &'static [Format] {
                     P: fields[6],
                     N: fields[7],
                     Delta: fields[8],
+                    // Document 02, L7: in formats 1 to 27 they are K, 0 and m.
+                    K1: fields[3],
+                    K2: 0,
+                    soft: fields[1],
                 }
             })
             .collect()

@@ -225,6 +225,9 @@ fn format_call(generator: &mut Generator, annex_c: &AnnexC) -> Compared {
             w: f.W() as u64,
             n: f.N as u64,
             provisional: annex_c.of_size(f.I).has_stand_in_rows().into(),
+            k1: f.K1 as u64,
+            k2: f.K2 as u64,
+            soft: f.soft as u64,
         },
         None => FormatInfo {
             number: FORMAT,
@@ -234,6 +237,9 @@ fn format_call(generator: &mut Generator, annex_c: &AnnexC) -> Compared {
             w: 0,
             n: 0,
             provisional: 0,
+            k1: 0,
+            k2: 0,
+            soft: 0,
         },
     };
     let found = interface::format(number);
