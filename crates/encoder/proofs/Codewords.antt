@@ -1,14 +1,15 @@
 -- The codeword of a block: how long it and its trellis part are, that they are bits, and what the two trellises write of it.
-use mathlib.Core.Path.{_≡_, ap₂, _∙_}
+use mathlib.Core.Path.{_≡_, ap, ap₂, _∙_}
 use mathlib.Core.Bool.{true}
 use mathlib.Core.List.{List, _++_}
 use Prim.Native.Nat.{ℕ, _%_, _≤_}
 use native.Mathlib.Omega.{arith}
-use lib.ListN.{length, drop}
+use lib.ListN.{length, take, drop}
 use lib.Seq.{length-take-le}
 use Rattle.bits.specs.Legal.{allBits}
 use Rattle.bits.proofs.Legal.{legal-take}
 use Rattle.acm.specs.Formats.{isFormat, formatOf, N1}
+use Rattle.acm.specs.declared.table.Format.{Format}
 use Rattle.acm.proofs.Laws.{format-sound, all-soft}
 use Rattle.trellis.specs.Trellis.{outer}
 use Rattle.trellis.proofs.Outer.{outer-length, outer-bits}
@@ -36,14 +37,19 @@ module _ (f : ℕ) (h : isFormat f ≡ true) where
 
   -- of a block of K bits
   module _ (block : List ℕ) (e : length block ≡ formatOf f .k) where
-    pub part-fits : formatOf f .k1 ≤ length block
-    part-fits = omega (arith, format-sound f h .split)
-
     pub part-long : length (trellisPart f block) ≡ formatOf f .k1
-    part-long = length-take-le (formatOf f .k1) block part-fits
+    part-long = length-take-le (formatOf f .k1) block (omega (arith, format-sound f h .split))
 
     pub part-even : length (trellisPart f block) % 2 ≡ 0
     part-even = omega (arith, part-long, format-sound f h .even)
+
+    -- as it is lent to the outer trellis, by the format's record
+    module _ {r : Format} (is : r ≡ formatOf f) where
+      pub lent-is : take (r .k1) block ≡ trellisPart f block
+      lent-is = ap (λ (r : Format). take (r .k1) block) is
+
+      pub lent-long : length (take (r .k1) block) ≡ r .k1
+      lent-long = rw is part-long
 
     -- its outer kept bits
     pub outer-long : length (outer (trellisPart f block)) ≡ formatOf f .i

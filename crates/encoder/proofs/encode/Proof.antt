@@ -4,17 +4,16 @@ use mathlib.Core.List.{List, _++_}
 use Prim.Native.Nat.{ℕ}
 use native.Mathlib.Omega.{arith}
 use borrow.Author.Needs.{needs}
-use lib.ListN.{length, take, drop, length-take}
+use lib.ListN.{length, take, drop}
 use Rattle.bits.specs.Checks.{passed}
 use Rattle.bits.proofs.Passed.{when-passed, when-refused}
 use Rattle.acm.specs.Formats.{formatOf, N1}
-use Rattle.acm.specs.declared.table.Format.{Format}
 use Rattle.trellis.specs.Trellis.{outer}
 use Rattle.inner.specs.Registers.{fromOuter}
 use Rattle.encoder.specs.Codeword.{trellisPart}
 use Rattle.encoder.specs.Calls.{encodeNumber, encodeWorkspace, encodeOutput}
 use Rattle.encoder.proofs.Checked.{EncodePassed, encode-passed}
-use Rattle.encoder.proofs.Codewords.{part-fits, part-even, outer-long, trellis-room, trellis-written}
+use Rattle.encoder.proofs.Codewords.{part-even, lent-is, lent-long, outer-long, trellis-room, trellis-written}
 use Rattle.encoder.proofs.encode.Statement.{statement}
 use Rattle.encoder.proofs.encode.Tie as tie
 
@@ -37,11 +36,14 @@ module _ (p : tie.After-parameters) where
   abbrev s : tie.Start
   s = start (p .before .before)
 
+  passes : EncodePassed (s .args .format) (s .args .block .now) (length (s .args .work .now)) (length (s .args .out .now))
+  passes = passed-of (p .before)
+
   part-is : take (p .parameters .result .k1) (s .args .block .now) ≡ trellisPart (s .args .format) (s .args .block .now)
-  part-is = ap (λ (r : Format). take (r .k1) (s .args .block .now)) (p .parameters .ensures)
+  part-is = lent-is _ (passes .known) (s .args .block .now) (passes .long) (p .parameters .ensures)
 
   long-of : length (outer (trellisPart (s .args .format) (s .args .block .now))) ≡ formatOf (s .args .format) .i
-  long-of = outer-long _ (passed-of (p .before) .known) (s .args .block .now) (passed-of (p .before) .long)
+  long-of = outer-long _ (passes .known) (s .args .block .now) (passes .long)
 
 -- a refused call's number is not 0
 refused : (c : tie.Then1)
@@ -63,20 +65,18 @@ parameters-requires c κs = passed-of c .known
 slice-aggregate-outer : tie.Need-slice-aggregate-outer
 slice-aggregate-outer c =
     let p = c .before in
-    let h = passed-of (p .before) in
-    simp length-take (omega (arith, ap (λ (r : Format). r .k1) (p .parameters .ensures), part-fits _ (h .known) (s p .args .block .now) (h .long)))
+    sym (lent-long _ (passes p .known) (s p .args .block .now) (passes p .long) (p .parameters .ensures))
 
 outer-requires : tie.Need-outer-requires
 outer-requires c κs =
     let p = c .before .before in
-    let h = passed-of (p .before) in
-    rw (part-is p) (part-even _ (h .known) (s p .args .block .now) (h .long), omega (arith, long-of p, h .work-fits))
+    rw (part-is p) (part-even _ (passes p .known) (s p .args .block .now) (passes p .long), omega (arith, long-of p, passes p .work-fits))
 
 encode-requires : tie.Need-encode-requires
 encode-requires c κs =
     let w = written c in
-    let h = passed-of (lent w .before) in
-    (h .known, omega (arith, w .outer .kept .1 .0, h .work-fits), trellis-room _ (h .known) (h .out-fits))
+    let p = lent w in
+    (passes p .known, omega (arith, w .outer .kept .1 .0, passes p .work-fits), trellis-room _ (passes p .known) (passes p .out-fits))
 
 same-length : tie.Need-same-length
 same-length c = search needs
@@ -91,7 +91,6 @@ returns-2 c =
     let p = lent w in
     let d = p .before in
     let a = s p .args in
-    let h = passed-of d in
     let e = sym (d .before .check-encode .ensures) ∙ d .if1 .left in
     let work = w .outer .ensures ∙ ap (λ (l : List ℕ). outer l ++ drop (length (outer l)) (a .work .now)) (part-is p) in (
       sym e,
@@ -99,7 +98,7 @@ returns-2 c =
         work ∙ ap (λ (n : ℕ). outer (trellisPart (a .format) (a .block .now)) ++ drop n (a .work .now)) (long-of p) ∙ when-passed _ _ _ e,
         c .before .before .encode .ensures
             ∙ ap (λ (l : List ℕ). fromOuter (a .format) l ++ drop (N1 (formatOf (a .format))) (a .out .now)) work
-            ∙ trellis-written (a .format) (h .known) (a .block .now) (h .long) _ (a .out .now)
+            ∙ trellis-written (a .format) (passes p .known) (a .block .now) (passes p .long) _ (a .out .now)
             ∙ when-passed _ _ _ e,
       ),
     )

@@ -4,19 +4,18 @@ use mathlib.Core.List.{List, _++_}
 use Prim.Native.Nat.{ℕ}
 use native.Mathlib.Omega.{arith}
 use borrow.Author.Needs.{needs}
-use lib.ListN.{length, take, drop, length-take}
+use lib.ListN.{length, take, drop}
 use Rattle.bits.specs.Checks.{passed}
 use Rattle.bits.proofs.Legal.{legal-take}
 use Rattle.bits.proofs.Passed.{when-passed, when-refused}
 use Rattle.acm.specs.Formats.{formatOf, N1}
-use Rattle.acm.specs.declared.table.Format.{Format}
 use Rattle.trellis.specs.Trellis.{outer}
 use Rattle.interleaver.specs.Interleaver.{π}
 use Rattle.inner.specs.Registers.{interleaved, fromOuter}
 use Rattle.encoder.specs.Codeword.{trellisPart}
 use Rattle.encoder.specs.Calls.{encodeWorkspace, encodeOutput}
 use Rattle.encoder.proofs.Checked.{EncodePassed, encode-passed}
-use Rattle.encoder.proofs.Codewords.{part-fits, part-long, part-even, outer-long, trellis-room, trellis-written}
+use Rattle.encoder.proofs.Codewords.{part-long, part-even, lent-is, lent-long, outer-long, trellis-room, trellis-written}
 use Rattle.cuts.specs.Cuts.{Cuts, statesOf}
 use Rattle.cuts.specs.declared.States.{States}
 use Rattle.segments.specs.Calls.{segmentsNumber, refused as refusal, segmented, segmentsWorkspace, segmentsOutput}
@@ -58,7 +57,7 @@ module _ (p : tie.After-parameters) where
   part = trellisPart (s past .args .format) (s past .args .block .now)
 
   part-is : take (p .parameters .result .k1) (s past .args .block .now) ≡ part
-  part-is = ap (λ (r : Format). take (r .k1) (s past .args .block .now)) (p .parameters .ensures)
+  part-is = lent-is _ (encodes past .known) (s past .args .block .now) (encodes past .long) (p .parameters .ensures)
 
   long : length (outer part) ≡ formatOf (s past .args .format) .i
   long = outer-long _ (encodes past .known) (s past .args .block .now) (encodes past .long)
@@ -95,7 +94,7 @@ slice-aggregate-encode : tie.Need-slice-aggregate-encode
 slice-aggregate-encode c =
     let p = c .before in
     let h = encodes (past p) in
-    simp length-take (omega (arith, ap (λ (r : Format). r .k1) (p .parameters .ensures), part-fits _ (h .known) (s (past p) .args .block .now) (h .long)))
+    sym (lent-long _ (h .known) (s (past p) .args .block .now) (h .long) (p .parameters .ensures))
 
 encode-requires : tie.Need-encode-requires
 encode-requires c κs =
