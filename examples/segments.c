@@ -37,7 +37,7 @@ int main(void)
     /* where the segments begin; all but the first are cuts */
     uint16_t outer[ENCODERS], inner[ENCODERS];
     for (size_t j = 0; j < ENCODERS; j++) {
-        outer[j] = (uint16_t)(f.k * j / ENCODERS);
+        outer[j] = (uint16_t)(f.k1 * j / ENCODERS);
         inner[j] = (uint16_t)(f.i * j / ENCODERS);
     }
     const sccc_segments_answer s =

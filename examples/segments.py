@@ -18,7 +18,7 @@ info = sccc.format_info(FORMAT)
 block = bits(2000 + 16 * FORMAT, info.k)
 
 # where the segments begin; all but the first are cuts
-outer = [info.k * j // ENCODERS for j in range(ENCODERS)]
+outer = [info.k1 * j // ENCODERS for j in range(ENCODERS)]
 inner = [info.i * j // ENCODERS for j in range(ENCODERS)]
 s = sccc.encode_segments(FORMAT, block, outer[1:], inner[1:])
 

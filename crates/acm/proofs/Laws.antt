@@ -30,6 +30,7 @@ pub record Sound (r : Format) : Type 0 where
   pub widest : r .w ≤ 546
   pub least-m : 2 ≤ r .m
   pub most-m : r .m ≤ 6
+  pub soft-fits : r .soft ≤ r .m
   pub most-k : r .k ≤ mostK
 
 -- the same as tests, in the same order
@@ -48,6 +49,7 @@ tests r =
     ∷ leb (r .w) 546
     ∷ leb 2 (r .m)
     ∷ leb (r .m) 6
+    ∷ leb (r .soft) (r .m)
     ∷ leb (r .k) mostK
     ∷ []
 
@@ -132,7 +134,7 @@ pub row-at : (g : ℕ) → recordOf (getD (map rowOf formats) g (rowOf none)) �
 row-at g = ap recordOf (List·getD-map rowOf formats g none)
 
 module _ (f : ℕ) (h : isFormat f ≡ true) where
-  part : (k : ℕ) → k < 14 → getD (tests (formatOf f)) k true ≡ true
+  part : (k : ℕ) → k < 15 → getD (tests (formatOf f)) k true ≡ true
   part = every-at (λ i t. t) (tests (formatOf f)) true (format-test (λ f. every (λ i t. t) 0 (tests (formatOf f))) tested f h)
 
   pub format-sound : Sound (formatOf f)
@@ -151,7 +153,8 @@ module _ (f : ℕ) (h : isFormat f ≡ true) where
         widest = leb-true _ _ (part 10 (lit< tt));
         least-m = leb-true _ _ (part 11 (lit< tt));
         most-m = leb-true _ _ (part 12 (lit< tt));
-        most-k = leb-true _ _ (part 13 (lit< tt));
+        soft-fits = leb-true _ _ (part 13 (lit< tt));
+        most-k = leb-true _ _ (part 14 (lit< tt));
       }
 
 -- memory of the largest K, I and N is enough for every format

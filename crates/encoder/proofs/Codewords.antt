@@ -18,12 +18,12 @@ use Rattle.inner.proofs.Codewords.{from-outer-length, from-outer-front, from-ou
 use Rattle.encoder.specs.Codeword.{trellisPart, codeword}
 
 module _ (f : ℕ) (h : isFormat f ≡ true) where
+  pub trellis-room : {room : ℕ} → formatOf f .n ≤ room → N1 (formatOf f) ≤ room
+  trellis-room fits = omega (arith, format-sound f h .soft-fits, format-sound f h .labels)
+
   -- every bit of a codeword comes from the trellises
   trellis-whole : N1 (formatOf f) ≡ formatOf f .n
   trellis-whole = omega (arith, all-soft f h .soft-is, format-sound f h .labels)
-
-  pub trellis-room : {room : ℕ} → formatOf f .n ≤ room → N1 (formatOf f) ≤ room
-  trellis-room fits = omega (arith, trellis-whole)
 
   pub codeword-length : (block : List ℕ) → length (codeword f block) ≡ formatOf f .n
   unfolding codeword
