@@ -17,6 +17,7 @@ pub fn encode(format: u64, block: &[u8], work: &mut [u8], out: &mut [u8]) -> u8
     if number != checks::PASSED {
         return number;
     }
+    // Only the first K1 bits go through the trellises; no format has others yet.
     let f = acm::steps::parameters(format);
     let k1 = f.k1;
     trellis::steps::outer(&block[..k1], work);
