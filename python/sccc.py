@@ -226,7 +226,8 @@ def encode_segments(
     out: Optional[Buffer] = None,
 ) -> Segments:
     """The codeword of an information block, encoded by segments (section 6), and their states: the outer cuts part the first K1 bits
-    of the block, the inner ones the interleaved bits. n cuts make n + 1 segments, and equal cuts an empty one; each tuple has n + 1 states.
+    of the block, the inner ones the interleaved bits. n cuts make n + 1 segments, and equal cuts an empty one; each tuple has n + 1
+    states.
 
     Checks: 1 to 5, as encode; 12, each list has at most fifteen cuts; 13, no cut is below the one before it, none of the outer ones
     above K1, and none of the inner ones above I. What out and work hold afterwards is what encode leaves there.
