@@ -209,7 +209,7 @@ uint8_t sccc_encode(uint64_t format, const uint8_t *block, size_t block_len, uin
  *
  * Computes  the codeword as encoders in parallel do: each segment of a trellis' input is run from
  *           the zero state, its true starting state is worked out from where those runs end
- *           (equation 6-6), and it is run again from there. The outer trellis' input are the first
+ *           (equation 6-6), and it is run again from there. The outer trellis' input is the first
  *           K1 bits of the block, the inner one's the I interleaved bits. A list of cuts makes one
  *           segment more than it has cuts: the first begins at 0 and each other at a cut, and each
  *           ends where the next begins, the last at the input's end. Equal cuts make an empty

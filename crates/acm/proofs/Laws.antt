@@ -53,7 +53,10 @@ tests r =
     ∷ leb (r .k) mostK
     ∷ []
 
-tested : below (λ g. every (λ i t. t) 0 (tests (formatOf (suc g)))) lastFormat ≡ true
+abbrev sound : Format → Bool
+sound r = every (λ i t. t) 0 (tests r)
+
+tested : below (λ g. sound (formatOf (suc g))) lastFormat ≡ true
 unfolding formatOf formats
 tested = refl
 
@@ -135,7 +138,7 @@ row-at g = ap recordOf (List·getD-map rowOf formats g none)
 
 module _ (f : ℕ) (h : isFormat f ≡ true) where
   part : (k : ℕ) → k < 15 → getD (tests (formatOf f)) k true ≡ true
-  part = every-at (λ i t. t) (tests (formatOf f)) true (format-test (λ f. every (λ i t. t) 0 (tests (formatOf f))) tested f h)
+  part = every-at (λ i t. t) (tests (formatOf f)) true (format-test (λ f. sound (formatOf f)) tested f h)
 
   pub format-sound : Sound (formatOf f)
   format-sound =

@@ -17,6 +17,13 @@ use Rattle.inner.specs.Registers.{fromOuter}
 use Rattle.inner.proofs.Codewords.{from-outer-length, from-outer-front, from-outer-bits}
 use Rattle.encoder.specs.Codeword.{trellisPart, codeword}
 
+-- the trellis part of a block, as it is lent by the format's record
+pub lent-is : (f : ℕ) (block : List ℕ) {r : Format} → r ≡ formatOf f → take (r .k1) block ≡ trellisPart f block
+lent-is f block is = ap (λ (r : Format). take (r .k1) block) is
+
+pub part-bits : (f : ℕ) (block : List ℕ) → allBits block ≡ true → allBits (trellisPart f block) ≡ true
+part-bits f block b = legal-take 1 (formatOf f .k1) block b
+
 module _ (f : ℕ) (h : isFormat f ≡ true) where
   pub trellis-room : {room : ℕ} → formatOf f .n ≤ room → N1 (formatOf f) ≤ room
   trellis-room fits = omega (arith, format-sound f h .soft-fits, format-sound f h .labels)
@@ -33,7 +40,7 @@ module _ (f : ℕ) (h : isFormat f ≡ true) where
   unfolding codeword
   codeword-bits block b =
       let part = trellisPart f block in
-      from-outer-bits f h (outer part) (outer-bits part (legal-take 1 (formatOf f .k1) block b))
+      from-outer-bits f h (outer part) (outer-bits part (part-bits f block b))
 
   -- of a block of K bits
   module _ (block : List ℕ) (e : length block ≡ formatOf f .k) where
@@ -43,13 +50,8 @@ module _ (f : ℕ) (h : isFormat f ≡ true) where
     pub part-even : length (trellisPart f block) % 2 ≡ 0
     part-even = omega (arith, part-long, format-sound f h .even)
 
-    -- as it is lent to the outer trellis, by the format's record
-    module _ {r : Format} (is : r ≡ formatOf f) where
-      pub lent-is : take (r .k1) block ≡ trellisPart f block
-      lent-is = ap (λ (r : Format). take (r .k1) block) is
-
-      pub lent-long : length (take (r .k1) block) ≡ r .k1
-      lent-long = rw is part-long
+    pub lent-long : {r : Format} → r ≡ formatOf f → length (take (r .k1) block) ≡ r .k1
+    lent-long is = rw is part-long
 
     -- its outer kept bits
     pub outer-long : length (outer (trellisPart f block)) ≡ formatOf f .i

@@ -40,7 +40,7 @@ module _ (p : tie.After-parameters) where
   passes = passed-of (p .before)
 
   part-is : take (p .parameters .result .k1) (s .args .block .now) ≡ trellisPart (s .args .format) (s .args .block .now)
-  part-is = lent-is _ (passes .known) (s .args .block .now) (passes .long) (p .parameters .ensures)
+  part-is = lent-is _ _ (p .parameters .ensures)
 
   long-of : length (outer (trellisPart (s .args .format) (s .args .block .now))) ≡ formatOf (s .args .format) .i
   long-of = outer-long _ (passes .known) (s .args .block .now) (passes .long)

@@ -6,7 +6,6 @@ use native.Mathlib.Omega.{arith}
 use borrow.Author.Needs.{needs}
 use lib.ListN.{length, take, drop}
 use Rattle.bits.specs.Checks.{passed}
-use Rattle.bits.proofs.Legal.{legal-take}
 use Rattle.bits.proofs.Passed.{when-passed, when-refused}
 use Rattle.acm.specs.Formats.{formatOf, N1}
 use Rattle.trellis.specs.Trellis.{outer}
@@ -15,7 +14,7 @@ use Rattle.inner.specs.Registers.{interleaved, fromOuter}
 use Rattle.encoder.specs.Codeword.{trellisPart}
 use Rattle.encoder.specs.Calls.{encodeWorkspace, encodeOutput}
 use Rattle.encoder.proofs.Checked.{EncodePassed, encode-passed}
-use Rattle.encoder.proofs.Codewords.{part-long, part-even, lent-is, lent-long, outer-long, trellis-room, trellis-written}
+use Rattle.encoder.proofs.Codewords.{part-bits, part-long, part-even, lent-is, lent-long, outer-long, trellis-room, trellis-written}
 use Rattle.cuts.specs.Cuts.{Cuts, statesOf}
 use Rattle.cuts.specs.declared.States.{States}
 use Rattle.segments.specs.Calls.{segmentsNumber, refused as refusal, segmented, segmentsWorkspace, segmentsOutput}
@@ -57,7 +56,7 @@ module _ (p : tie.After-parameters) where
   part = trellisPart (s past .args .format) (s past .args .block .now)
 
   part-is : take (p .parameters .result .k1) (s past .args .block .now) ≡ part
-  part-is = lent-is _ (encodes past .known) (s past .args .block .now) (encodes past .long) (p .parameters .ensures)
+  part-is = lent-is _ _ (p .parameters .ensures)
 
   long : length (outer part) ≡ formatOf (s past .args .format) .i
   long = outer-long _ (encodes past .known) (s past .args .block .now) (encodes past .long)
@@ -104,7 +103,7 @@ encode-requires c κs =
     rw (part-is p) (
       (
         part-even _ (h .known) (a .block .now) (h .long),
-        legal-take 1 (formatOf (a .format) .k1) (a .block .now) (h .bits),
+        part-bits (a .format) (a .block .now) (h .bits),
         subst (λ (n : ℕ). Cuts n (a .outer .now)) (sym (part-long _ (h .known) (a .block .now) (h .long))) (sound (past p) .outer-cuts),
       ),
       omega (arith, long p, h .work-fits),
@@ -119,7 +118,7 @@ encode-requires-2 c κs =
       (h .known, omega (arith, w .encode .kept .1 .1 .0, h .work-fits), trellis-room _ (h .known) (h .out-fits)),
       (
         sound (past p) .inner-cuts,
-        rw (w .encode .ensures .1, part-is p) (work-bits (a .format) (h .known) (part p) _ (long p) (legal-take 1 (formatOf (a .format) .k1) (a .block .now) (h .bits))),
+        rw (w .encode .ensures .1, part-is p) (work-bits (a .format) (h .known) (part p) _ (long p) (part-bits (a .format) (a .block .now) (h .bits))),
       ),
     )
 

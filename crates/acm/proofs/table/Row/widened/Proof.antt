@@ -1,35 +1,35 @@
--- Every number of a row has 16 bits.
+-- Every number of a row has 16 bits. Of the last three the search, which enters only so many records, does not find it by itself.
 use native.Mathlib.Omega.{arith}
 use borrow.Author.Needs.{needs}
 use Rattle.acm.proofs.table.Row.widened.Statement.{statement}
 use Rattle.acm.proofs.table.Row.widened.Tie as tie
 
 cast-t2 : tie.Need-cast-t2
-cast-t2 c = omega (arith, c .struct-known .given)
+cast-t2 c = search needs
 
 cast-t3 : tie.Need-cast-t3
-cast-t3 c = omega (arith, c .struct-known2 .given)
+cast-t3 c = search needs
 
 cast-t4 : tie.Need-cast-t4
-cast-t4 c = omega (arith, c .struct-known3 .given)
+cast-t4 c = search needs
 
 cast-t5 : tie.Need-cast-t5
-cast-t5 c = omega (arith, c .struct-known4 .given)
+cast-t5 c = search needs
 
 cast-t6 : tie.Need-cast-t6
-cast-t6 c = omega (arith, c .struct-known5 .given)
+cast-t6 c = search needs
 
 cast-t7 : tie.Need-cast-t7
-cast-t7 c = omega (arith, c .struct-known6 .given)
+cast-t7 c = search needs
 
 cast-t8 : tie.Need-cast-t8
-cast-t8 c = omega (arith, c .struct-known7 .given)
+cast-t8 c = search needs
 
 cast-t9 : tie.Need-cast-t9
-cast-t9 c = omega (arith, c .struct-known8 .given)
+cast-t9 c = search needs
 
 cast-t10 : tie.Need-cast-t10
-cast-t10 c = omega (arith, c .struct-known9 .given)
+cast-t10 c = search needs
 
 cast-t11 : tie.Need-cast-t11
 cast-t11 c = omega (arith, c .struct-known10 .given)
