@@ -20,12 +20,8 @@ pub fn put(words: &[u8], out: &mut [u8], at: usize) -> usize
     ensures { λ r. ⌜ r ≡ at + length (now (words .entry)) ⌝ }
     ensures { λ _. ⌜ now (out .exit) ≡ sets (now (out .entry)) at (now (words .entry)) ⌝ }
 {
-    let mut i = 0;
-    while i < words.len() {
-        out[at + i] = words[i];
-        i += 1;
-    }
-    at + i
+    bits::steps::put(words, out, at);
+    at + words.len()
 }
 
 // Numbers with a comma behind each and a line feed behind the last, from the place at on; answers the place behind them.

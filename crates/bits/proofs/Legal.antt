@@ -89,6 +89,9 @@ pub legal-rest : (top : ℕ) (a b : List ℕ) → allAtMost top (a ++ b) ≡ tru
 legal-rest top [] b e = e
 legal-rest top (x ∷ a) b e = legal-rest top a b (legal-tail top x (a ++ b) e)
 
+pub legal-drop : (top n : ℕ) (l : List ℕ) → allAtMost top l ≡ true → allAtMost top (drop n l) ≡ true
+legal-drop top n l h = legal-rest top (take n l) (drop n l) (rw (take-append-drop n l) h)
+
 pub legal-append : (top : ℕ) (a b : List ℕ) → allAtMost top a ≡ true → allAtMost top b ≡ true → allAtMost top (a ++ b) ≡ true
 legal-append top [] b e f = f
 legal-append top (x ∷ a) b e f =

@@ -5,6 +5,7 @@ pub mod Legal
 pub mod Lists
 pub mod Passed
 pub mod Places
+pub mod Same
 pub mod Sequences
 pub mod Sums
 pub mod Table

@@ -1,4 +1,4 @@
--- Lists: from a place on, and after a store.
+-- Lists: from a place on, up to one, and after a store.
 use mathlib.Core.Path.{_≡_, ap, _∙_}
 use mathlib.Core.List.{List, [], _∷_, _++_, append-assoc, append-nil}
 use Prim.Native.Nat.{ℕ, _+_, _<_}
@@ -6,7 +6,7 @@ use native.Mathlib.Numerals.{add-one}
 use native.Mathlib.Omega.{arith}
 use borrow.Author.Tests.{eqb-true, eqb-false}
 use lib.Dec.{eqb}
-use lib.ListN.{length, getD, set, drop}
+use lib.ListN.{length, getD, set, take, drop, length-take, length-drop}
 use lib.Seq.{drop-cons, getD-set-same, getD-set-other}
 use Rattle.bits.specs.Joined.{joined}
 use Rattle.bits.proofs.Cases.{by-cases}
@@ -31,3 +31,11 @@ entry-set l i x k v h new old =
     by-cases (eqb k i)
     (λ t. let e : k ≡ i = eqb-true k i t in ap (λ (n : ℕ). getD (set l i x) n 0) e ∙ getD-set-same l i x 0 h ∙ new e)
     (λ f. getD-set-other l i k x 0 (eqb-false k i f) ∙ old (eqb-false k i f))
+
+-- the fronts of two lists of one length, and what is behind them
+module _ (n : ℕ) (a b : List ℕ) (e : length a ≡ length b) where
+  pub take-same : length (take n a) ≡ length (take n b)
+  take-same = simp (length-take, e)
+
+  pub drop-same : length (drop n a) ≡ length (drop n b)
+  drop-same = simp (length-drop, e)

@@ -7,7 +7,7 @@ use native.Mathlib.Nat.{mod-add-mod, add-mod-mod}
 use native.Mathlib.Omega.{arith}
 use borrow.Author.Tests.{le-leb}
 use lib.Bits.{bitXor, xor-add-and, xor-shr}
-use lib.ListN.{length, getD, take}
+use lib.ListN.{length, getD, take, drop}
 use Rattle.bits.specs.Legal.{allBits}
 use Rattle.bits.specs.Sum.{_⊕_, _⊕*_, bit}
 
@@ -32,6 +32,12 @@ pub ⊕*-take : (n : ℕ) (xs ys : List ℕ) → take n (xs ⊕* ys) ≡ take n 
 ⊕*-take (suc n) [] ys = refl
 ⊕*-take (suc n) (x ∷ xs) [] = refl
 ⊕*-take (suc n) (x ∷ xs) (y ∷ ys) = ap (λ (l : List ℕ). x ⊕ y ∷ l) (⊕*-take n xs ys)
+
+pub ⊕*-drop : (n : ℕ) (xs ys : List ℕ) → length xs ≡ length ys → drop n (xs ⊕* ys) ≡ drop n xs ⊕* drop n ys
+⊕*-drop zero xs ys e = refl
+⊕*-drop (suc n) [] ys e = refl
+⊕*-drop (suc n) (x ∷ xs) [] e = absurd (omega arith)
+⊕*-drop (suc n) (x ∷ xs) (y ∷ ys) e = ⊕*-drop n xs ys (omega arith)
 
 pub ⊕*-at : (xs ys : List ℕ) (k : ℕ) → length xs ≡ length ys → getD (xs ⊕* ys) k 0 ≡ getD xs k 0 ⊕ getD ys k 0
 ⊕*-at [] [] k e = refl

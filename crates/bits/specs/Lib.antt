@@ -5,6 +5,8 @@ pub mod Joined
 pub mod Legal
 pub mod Permutation
 pub mod Place
+pub mod Polynomials
+pub mod Same
 pub mod Sequence
 pub mod Sum
 pub mod Words

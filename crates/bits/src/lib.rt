@@ -4,6 +4,7 @@ ghost use Rattle.bits.specs.Sum.{_⊕_};
 ghost use Rattle.bits.specs.Legal.{allAtMost};
 
 pub mod checks;
+pub mod steps;
 
 // The sum of two bits modulo 2.
 pub fn sum(a: u8, b: u8) -> u8

@@ -7,12 +7,14 @@ use native.Mathlib.Omega.{arith}
 use borrow.Author.Tests.{leb-true, ltb-true, eqb-true, eqb-false, eq-eqb, lt-ltb}
 use lib.Dec.{eqb, leb, ltb}
 use lib.ListN.{length, getD}
+use Rattle.bits.specs.Same.{same}
 use Rattle.bits.proofs.Cases.{by-cases}
+use Rattle.bits.proofs.Same.{same-self, same-equal}
 use Rattle.bits.proofs.Table.{left-true, right-true}
 use Rattle.job_line.specs.declared.line.Field.the-variants.{Number, NoNumber}
 use Rattle.ascii.specs.Text.{zeroDigit, nineDigit, digit, decimal}
 use Rattle.ascii.proofs.Decimal.{decimal-one, decimal-push, decimal-some, decimal-length}
-use Rattle.job_line.specs.Line.{fieldDigits, fieldLimit, isDigit, allDigits, valueBehind, value, same, isField, fieldOf}
+use Rattle.job_line.specs.Line.{fieldDigits, fieldLimit, isDigit, allDigits, valueBehind, value, isField, fieldOf}
 use Rattle.job_line.proofs.Digits.{decimal-digits, decimal-value, decimal-leads}
 
 pub record Spelled (text : List ℕ) : Type 0 where
@@ -30,18 +32,6 @@ decimal-spelled n h =
       leads = decimal-leads n;
       digits = decimal-digits n;
     }
-
--- two texts are the same
-pub same-self : (text : List ℕ) → same text text ≡ true
-same-self [] = refl
-same-self (b ∷ bs) = rw (eq-eqb b b refl, same-self bs)
-
-pub same-equal : (a b : List ℕ) → same a b ≡ true → a ≡ b
-same-equal [] [] e = refl
-same-equal [] (y ∷ b) e = absurd (false≢true e)
-same-equal (x ∷ a) [] e = absurd (false≢true e)
-same-equal (x ∷ a) (y ∷ b) e =
-    rw (eqb-true x y (left-true (eqb x y) (same a b) e), same-equal a b (right-true (eqb x y) (same a b) e))
 
 -- the text of a number below 1,000 is a field, and every field is one
 pub field-written : (text : List ℕ) (n : ℕ) → n < fieldLimit → text ≡ decimal n → (isField text ≡ true) × (value text ≡ n)

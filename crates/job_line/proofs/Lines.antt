@@ -12,15 +12,17 @@ use lib.Dec.{ltb}
 use lib.ListN.{length, take, length-append, drop-of-length-le}
 use lib.Seq.{split-at, take-at, drop-append-add}
 use Rattle.bits.specs.Place.{place}
+use Rattle.bits.specs.Same.{same}
+use Rattle.bits.proofs.Same.{same-self, same-equal}
 use Rattle.bits.proofs.Cases.{by-cases}
 use Rattle.bits.proofs.Places.{place-is}
 use Rattle.bits.proofs.Table.{left-true, right-true}
 use Rattle.job_line.specs.declared.line.Field.the-variants.{Number, NoNumber}
 use Rattle.job_line.specs.declared.line.Line.the-variants.{Numbers, Malformed}
 use Rattle.ascii.specs.Text.{comma, lineFeed, decimal, line}
-use Rattle.job_line.specs.Line.{WellFormed, fieldLimit, longestLine, isDigit, allDigits, value, before, behind, same, isField, fieldOf, formatIn, patternIn, isLine, lineOf}
+use Rattle.job_line.specs.Line.{WellFormed, fieldLimit, longestLine, isDigit, allDigits, value, before, behind, isField, fieldOf, formatIn, patternIn, isLine, lineOf}
 use Rattle.job_line.proofs.Digits.{decimal-digits, decimal-value}
-use Rattle.job_line.proofs.Fields.{decimal-spelled, same-self, same-equal, field-written, field-read, number-read, none-read}
+use Rattle.job_line.proofs.Fields.{decimal-spelled, field-written, field-read, number-read, none-read}
 
 -- where a byte stands behind digits
 module _ (b : ℕ) (other : isDigit b ≡ false) where

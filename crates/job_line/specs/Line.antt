@@ -8,6 +8,7 @@ use lib.ListN.{take, drop}
 use Rattle.bits.specs.Choice.{if_then_else_}
 use Rattle.bits.specs.Digits.{valueFrom}
 use Rattle.bits.specs.Place.{place}
+use Rattle.bits.specs.Same.{same}
 use Rattle.job_line.specs.declared.line.Field.{Field}
 use Rattle.job_line.specs.declared.line.Field.the-variants.{Number, NoNumber}
 use Rattle.job_line.specs.declared.line.Line.{Line}
@@ -53,12 +54,6 @@ before b text = take (place b text) text
 
 abbrev pub behind : ℕ → List ℕ → List ℕ
 behind b text = drop (place b text + 1) text
-
-abbrev pub same : List ℕ → List ℕ → Bool
-same [] [] = true
-same [] (y ∷ ys) = false
-same (x ∷ xs) [] = false
-same (x ∷ xs) (y ∷ ys) = eqb x y && same xs ys
 
 -- a text is a field if it is the text of its own value
 unfoldable pub isField : List ℕ → Bool

@@ -1,18 +1,18 @@
--- What is left to put after i bytes are the words from i on.
+-- What is left to put after i bytes are those of the list from i on.
 use Prim.Native.Nat.{_+_, _-_, _≤_}
 use native.Mathlib.Omega.{arith}
 use lib.ListN.{length, drop, drop-of-length-le}
 use Rattle.bits.proofs.Fill.{Left, fill-start, fill-next, fill-end}
 use Rattle.bits.proofs.Lists.{drop-next}
 use borrow.Author.Needs.{needs}
-use Rattle.ascii.proofs.steps.put.Statement.{statement}
-use Rattle.ascii.proofs.steps.put.Tie as tie
+use Rattle.bits.proofs.steps.put.Statement.{statement}
+use Rattle.bits.proofs.steps.put.Tie as tie
 
 abbrev Inv-loop : tie.InvT-loop
-Inv-loop words out₀ at i₀ out i = (i ≤ length words) × Left out₀ at words out (at + i) (drop i words)
+Inv-loop list out₀ at i₀ out i = (i ≤ length list) × Left out₀ at list out (at + i) (drop i list)
 
 abbrev μ-loop : tie.MeasureT-loop
-μ-loop words out₀ at i₀ out i = length words - i
+μ-loop list out₀ at i₀ out i = length list - i
 
 loop-holds : tie.Need-loop-holds Inv-loop μ-loop
 loop-holds c = (omega arith, fill-start _ _ _)
@@ -37,14 +37,11 @@ loop-again c =
     let l = c .before .before in
     (omega arith, fill-next _ (drop-next _ _ (c .before .loop-test .taken)) (l .loop .inv .1))
 
-add-result : tie.Need-add-result Inv-loop μ-loop
-add-result c = search needs
-
 same-length : tie.Need-same-length Inv-loop μ-loop
 same-length c = search needs
 
 returns : tie.Need-returns Inv-loop μ-loop
-returns c = (omega arith, fill-end (drop-of-length-le _ (c .loop-test .left)) (c .before .loop .inv .1))
+returns c = fill-end (drop-of-length-le _ (c .loop-test .left)) (c .before .loop .inv .1)
 
 pub put-spec : {M : Type 1} → statement M
 put-spec =
@@ -59,6 +56,5 @@ put-spec =
     add-i
     loop-less
     loop-again
-    add-result
     same-length
     returns)

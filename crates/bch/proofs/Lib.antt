@@ -1,0 +1,5 @@
+pub mod Division
+pub mod Generator
+pub mod Laws
+pub mod Registers
+pub mod Words

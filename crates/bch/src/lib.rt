@@ -1,0 +1,3 @@
+// The BCH code (004, 4.3).
+pub mod steps;
+mod table;
