@@ -1,4 +1,4 @@
--- What holds of every format's record, from one test over table 4-3.
+-- What holds of every format's record, from one test over all.
 use mathlib.Core.Path.{_≡_, refl, sym, ap, subst}
 use mathlib.Core.Bool.{Bool, true, false}
 use mathlib.Core.List.{List, [], _∷_, map}
@@ -13,7 +13,7 @@ use Rattle.bits.proofs.Table.{left-true, right-true, every, every-at, below, be
 use Rattle.acm.specs.declared.table.Format.{Format}
 use Rattle.acm.specs.declared.table.Row.{Row}
 use Rattle.acm.specs.declared.Found.the-variants.{Record, NoFormat}
-use Rattle.acm.specs.Formats.{M, symbols, formats, formatOf, none, lastFormat, isFormat, P, N1, AllSoft, mostK, mostI, mostN, Answer, answerOf, lookedUp}
+use Rattle.acm.specs.Formats.{M, symbols, pieceLength, formats, formatOf, none, lastFormat, lastOneStage, isFormat, P, N1, hardBits, AllSoft, mostK, mostI, mostN, Answer, answerOf, lookedUp}
 use Rattle.acm.specs.Table.{recordOf}
 
 pub record Sound (r : Format) : Type 0 where
@@ -29,8 +29,9 @@ pub record Sound (r : Format) : Type 0 where
   pub some : 0 < r .w
   pub widest : r .w ≤ 546
   pub least-m : 2 ≤ r .m
-  pub most-m : r .m ≤ 6
+  pub most-m : r .m ≤ 8
   pub soft-fits : r .soft ≤ r .m
+  pub pieces : r .k2 ≡ pieceLength * hardBits r
   pub most-k : r .k ≤ mostK
 
 -- the same as tests, in the same order
@@ -48,8 +49,9 @@ tests r =
     ∷ ltb 0 (r .w)
     ∷ leb (r .w) 546
     ∷ leb 2 (r .m)
-    ∷ leb (r .m) 6
+    ∷ leb (r .m) 8
     ∷ leb (r .soft) (r .m)
+    ∷ eqb (r .k2) (pieceLength * hardBits r)
     ∷ leb (r .k) mostK
     ∷ []
 
@@ -60,20 +62,21 @@ tested : below (λ g. sound (formatOf (suc g))) lastFormat ≡ true
 unfolding formatOf formats
 tested = refl
 
--- formats are the numbers 1 to 27
+-- formats are the numbers 1 to 37
 pub format-low : (f : ℕ) → isFormat f ≡ true → 1 ≤ f
 format-low f h = leb-true 1 f (left-true (leb 1 f) (leb f lastFormat) h)
 
 pub format-high : (f : ℕ) → isFormat f ≡ true → f ≤ lastFormat
 format-high f h = leb-true f lastFormat (right-true (leb 1 f) (leb f lastFormat) h)
 
--- a test that holds of 1 to 27 holds of every format
-pub format-test : (test : ℕ → Bool) → below (λ g. test (suc g)) lastFormat ≡ true → (f : ℕ) → isFormat f ≡ true → test f ≡ true
-format-test test all f h =
-    let low = format-low f h in
-    let high = format-high f h in
+-- a test that holds of 1 to some number holds of each of them, and one that holds of 1 to 37 of every format
+numbers-test : (test : ℕ → Bool) (last : ℕ) → below (λ g. test (suc g)) last ≡ true → (f : ℕ) → 1 ≤ f → f ≤ last → test f ≡ true
+numbers-test test last all f low high =
     let e : suc (f - 1) ≡ f = omega arith in
-    subst (λ (g : ℕ). test g ≡ true) e (below-at (λ g. test (suc g)) lastFormat all (f - 1) (omega arith))
+    subst (λ (g : ℕ). test g ≡ true) e (below-at (λ g. test (suc g)) last all (f - 1) (omega arith))
+
+pub format-test : (test : ℕ → Bool) → below (λ g. test (suc g)) lastFormat ≡ true → (f : ℕ) → isFormat f ≡ true → test f ≡ true
+format-test test all f h = numbers-test test lastFormat all f (format-low f h) (format-high f h)
 
 -- every format has a record, and the record's number is the place it stands at
 pub one-each : length formats ≡ lastFormat
@@ -87,25 +90,26 @@ numbered = refl
 pub format-number : (f : ℕ) → isFormat f ≡ true → formatOf f .number ≡ f
 format-number f h = eqb-true _ _ (format-test (λ f. eqb (formatOf f .number) f) numbered f h)
 
--- K1, K2 and the soft bits are K, 0 and m
-k1-tested : below (λ g. eqb (formatOf (suc g) .k1) (formatOf (suc g) .k)) lastFormat ≡ true
+-- up to 27 K1, K2 and the soft bits are K, 0 and m
+k1-tested : below (λ g. eqb (formatOf (suc g) .k1) (formatOf (suc g) .k)) lastOneStage ≡ true
 unfolding formatOf formats
 k1-tested = refl
 
-k2-tested : below (λ g. eqb (formatOf (suc g) .k2) 0) lastFormat ≡ true
+k2-tested : below (λ g. eqb (formatOf (suc g) .k2) 0) lastOneStage ≡ true
 unfolding formatOf formats
 k2-tested = refl
 
-soft-tested : below (λ g. eqb (formatOf (suc g) .soft) (formatOf (suc g) .m)) lastFormat ≡ true
+soft-tested : below (λ g. eqb (formatOf (suc g) .soft) (formatOf (suc g) .m)) lastOneStage ≡ true
 unfolding formatOf formats
 soft-tested = refl
 
-pub all-soft : (f : ℕ) → isFormat f ≡ true → AllSoft (formatOf f)
-all-soft f h =
+pub all-soft : (f : ℕ) → isFormat f ≡ true → f ≤ lastOneStage → AllSoft (formatOf f)
+all-soft f h few =
+    let low = format-low f h in
     record {
-      k1-is = eqb-true _ _ (format-test (λ f. eqb (formatOf f .k1) (formatOf f .k)) k1-tested f h);
-      k2-is = eqb-true _ _ (format-test (λ f. eqb (formatOf f .k2) 0) k2-tested f h);
-      soft-is = eqb-true _ _ (format-test (λ f. eqb (formatOf f .soft) (formatOf f .m)) soft-tested f h);
+      k1-is = eqb-true _ _ (numbers-test (λ f. eqb (formatOf f .k1) (formatOf f .k)) lastOneStage k1-tested f low few);
+      k2-is = eqb-true _ _ (numbers-test (λ f. eqb (formatOf f .k2) 0) lastOneStage k2-tested f low few);
+      soft-is = eqb-true _ _ (numbers-test (λ f. eqb (formatOf f .soft) (formatOf f .m)) lastOneStage soft-tested f low few);
     }
 
 -- record g of the table is that of format g + 1
@@ -137,7 +141,7 @@ pub row-at : (g : ℕ) → recordOf (getD (map rowOf formats) g (rowOf none)) �
 row-at g = ap recordOf (List·getD-map rowOf formats g none)
 
 module _ (f : ℕ) (h : isFormat f ≡ true) where
-  part : (k : ℕ) → k < 15 → getD (tests (formatOf f)) k true ≡ true
+  part : (k : ℕ) → k < 16 → getD (tests (formatOf f)) k true ≡ true
   part = every-at (λ i t. t) (tests (formatOf f)) true (format-test (λ f. sound (formatOf f)) tested f h)
 
   pub format-sound : Sound (formatOf f)
@@ -157,7 +161,8 @@ module _ (f : ℕ) (h : isFormat f ≡ true) where
         least-m = leb-true _ _ (part 11 (lit< tt));
         most-m = leb-true _ _ (part 12 (lit< tt));
         soft-fits = leb-true _ _ (part 13 (lit< tt));
-        most-k = leb-true _ _ (part 14 (lit< tt));
+        pieces = eqb-true _ _ (part 14 (lit< tt));
+        most-k = leb-true _ _ (part 15 (lit< tt));
       }
 
 -- memory of the largest K, I and N is enough for every format

@@ -1,4 +1,4 @@
--- The ACM formats (table 4-3) with their soft share (document 02, L7), and the lookup's answer.
+-- The ACM formats (table 4-3; 28 to 37 by tables 3-1, 4-1 and 5-3 of 004) with their soft share (document 02, L7), and the lookup's answer.
 use mathlib.Core.Path.{_≡_}
 use mathlib.Core.Bool.{Bool, _&&_}
 use mathlib.Core.List.{List, [], _∷_}
@@ -18,10 +18,18 @@ symbols = 8100
 abbrev pub M : ℕ
 M = 120
 
+-- information bits of a piece, and so of a BCH codeword (004, 4.3)
+abbrev pub pieceLength : ℕ
+pieceLength = 8048
+
+-- the format's number, m, K, K1, K2, soft bits, I, W, N, S_sur, S, Δ
+abbrev pub twoStage : ℕ → ℕ → ℕ → ℕ → ℕ → ℕ → ℕ → ℕ → ℕ → ℕ → ℕ → ℕ → Format
+twoStage f m K K1 K2 soft I W N Ssur S Δ =
+    record { number = f; m = m; k = K; i = I; w = W; n = N; k1 = K1; k2 = K2; soft = soft; survivors = Ssur; s = S; delta = Δ }
+
 -- the format's number, m, K, I, W, N, S_sur, S, Δ, where K1 is K, K2 is 0, and all m bits of a label are soft
 abbrev pub row : ℕ → ℕ → ℕ → ℕ → ℕ → ℕ → ℕ → ℕ → ℕ → Format
-row f m K I W N Ssur S Δ =
-    record { number = f; m = m; k = K; i = I; w = W; n = N; k1 = K; k2 = 0; soft = m; survivors = Ssur; s = S; delta = Δ }
+row f m K I W N Ssur S Δ = twoStage f m K K 0 m I W N Ssur S Δ
 
 abbrev pub none : Format
 none = row 0 0 0 0 0 0 0 0 0
@@ -55,11 +63,24 @@ formats =
     row 25 6 38638 57960 483 48600 220 42507 51869 ∷
     row 26 6 41038 61560 513 48600 214 43915 56877 ∷
     row 27 6 43678 65520 546 48600 208 45429 62351 ∷
+    twoStage 28 7 43342 19198 24144 4 28800 240 56700 255 24482 20884 ∷
+    twoStage 29 7 45502 21358 24144 4 32040 267 56700 241 25741 25383 ∷
+    twoStage 30 7 47662 23518 24144 4 35280 294 56700 230 27051 29933 ∷
+    twoStage 31 7 50062 25918 24144 4 38880 324 56700 220 28515 34997 ∷
+    twoStage 32 7 52462 28318 24144 4 42480 354 56700 211 29880 39962 ∷
+    twoStage 33 8 51390 19198 32192 4 28800 240 64800 255 24482 20884 ∷
+    twoStage 34 8 53550 21358 32192 4 32040 267 64800 241 25741 25383 ∷
+    twoStage 35 8 55710 23518 32192 4 35280 294 64800 230 27051 29933 ∷
+    twoStage 36 8 58110 25918 32192 4 38880 324 64800 220 28515 34997 ∷
+    twoStage 37 8 60510 28318 32192 4 42480 354 64800 211 29880 39962 ∷
     []
 
--- the number of the last format
+-- the number of the last format, and of the last whose bits all go through the trellises
 abbrev pub lastFormat : ℕ
-lastFormat = 27
+lastFormat = 37
+
+abbrev pub lastOneStage : ℕ
+lastOneStage = 27
 
 abbrev pub isFormat : ℕ → Bool
 isFormat f = leb 1 f && leb f lastFormat
@@ -76,6 +97,10 @@ P r = r .i - r .delta + 2
 abbrev pub N1 : Format → ℕ
 N1 r = symbols * r .soft
 
+-- hard bits (004, table 5-3): those of one label that the BCH code covers, and so the pieces of a block
+abbrev pub hardBits : Format → ℕ
+hardBits r = r .m - r .soft
+
 -- every bit of a block goes through the trellises, and so every bit of a label is soft
 pub record AllSoft (r : Format) : Type 0 where
   pub k1-is : r .k1 ≡ r .k
@@ -84,13 +109,13 @@ pub record AllSoft (r : Format) : Type 0 where
 
 -- the largest K, I and N
 abbrev pub mostK : ℕ
-mostK = 43678
+mostK = 60510
 
 abbrev pub mostI : ℕ
 mostI = 65520
 
 abbrev pub mostN : ℕ
-mostN = 48600
+mostN = 64800
 
 -- the largest label of format f: m bits, all 1
 abbrev pub topLabel : ℕ → ℕ

@@ -1,4 +1,4 @@
-// The 27 ACM formats (tables 4-1 and 4-3).
+// The 37 ACM formats (tables 4-1 and 4-3; 28 to 37 by 004).
 ghost use mathlib.Core.Path.{_≡_};
 ghost use Rattle.acm.specs.Formats.{answerOf, lookedUp, topLabel};
 
@@ -8,17 +8,20 @@ mod table;
 pub use table::Format;
 
 // The number of the last ACM format.
-pub const LAST: u64 = 27;
+pub const LAST: u64 = 37;
 
 // Labels of a codeword (4.1).
 pub const SYMBOLS: usize = 8100;
 
+// Information bits of a piece, and so of a BCH codeword (004, 4.3).
+pub const PIECE_LENGTH: usize = 8048;
+
 // The largest K, I and N: memory of so many bytes holds the block, the workspace and the codeword of any format.
-pub const MOST_K: usize = 43678;
+pub const MOST_K: usize = 60510;
 
 pub const MOST_I: usize = 65520;
 
-pub const MOST_N: usize = 48600;
+pub const MOST_N: usize = 64800;
 
 // The answer of a lookup.
 pub enum Found {

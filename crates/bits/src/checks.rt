@@ -3,7 +3,7 @@
 
 // No check failed.
 pub const PASSED: u8 = 0;
-// The ACM format is 1 to 27.
+// The ACM format is 1 to 37.
 pub const FORMAT: u8 = 1;
 // Each input list is as long as the call takes.
 pub const LENGTH: u8 = 2;

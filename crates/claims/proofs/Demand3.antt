@@ -57,7 +57,7 @@ sum-differs n a b e ha hb k h = rw (⊕*-at a b k e) (one-where-differ (getD a k
 
 module _ (f : ℕ) (h : isFormat f ≡ true) (a b : List ℕ) (A : Block f a) (B : Block f b) where
   same : length (codeword f a) ≡ length (codeword f b)
-  same = codeword-length f h a ∙ sym (codeword-length f h b)
+  same = codeword-length f h a (A .long) ∙ sym (codeword-length f h b (B .long))
 
   numbers : (r : ℕ) → r < symbols → getD (blockLabels f (a ⊕* b)) r 0 ≡ bitXor (getD (blockLabels f a) r 0) (getD (blockLabels f b) r 0)
   numbers r l =
@@ -85,7 +85,7 @@ wholeness f h block B =
     let w = codeword f block in
     let bits = codeword-bits f h block (B .bits) in
     record {
-      codeword-long = codeword-length f h block;
+      codeword-long = codeword-length f h block (B .long);
       codeword-bits = bits;
       labels-long = labels-long m w;
       labels-low = (λ r l. rw (label-at m w r l) (label-low m w r bits));

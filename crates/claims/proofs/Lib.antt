@@ -1,6 +1,7 @@
 pub mod CodedBits
 pub mod Comparison
 pub mod Demand3
+pub mod Extension
 pub mod Look
 pub mod Readings
 pub mod Records

@@ -1,5 +1,6 @@
 pub mod Comparison
 pub mod Demand3
+pub mod Extension
 pub mod Look
 pub mod Readings
 pub mod Records

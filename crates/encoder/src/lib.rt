@@ -4,6 +4,8 @@ ghost use lib.ListN.{length};
 ghost use Rattle.encoder.specs.Calls.{encodeNumber, encodeWorkspace, encodeOutput, labelsNumber, labelsOutput};
 use bits::checks;
 
+pub mod steps;
+
 // The codeword of an information block.
 // Checks: 1; 2, the block has K bits; 3, each is 0 or 1; 4, the workspace has at least I bytes; 5, the output has at least N bytes.
 // Afterwards the first I bytes of work are the outer kept bits before interleaving, the first N bytes of out are the codeword, and the
@@ -17,11 +19,12 @@ pub fn encode(format: u64, block: &[u8], work: &mut [u8], out: &mut [u8]) -> u8
     if number != checks::PASSED {
         return number;
     }
-    // Only the first K1 bits go through the trellises; no format has others yet.
+    // The first K1 bits go through the trellises, the others behind them in pieces.
     let f = acm::steps::parameters(format);
     let k1 = f.k1;
     trellis::steps::outer(&block[..k1], work);
     inner::steps::encode(format, work, out);
+    steps::put_pieces(format, block, out);
     checks::PASSED
 }
 

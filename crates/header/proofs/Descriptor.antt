@@ -68,21 +68,22 @@ twice-rows y (b ∷ bs) (row ∷ rows) =
     chosen true = twice-sum y row
     chosen false = refl
 
--- b1 to b6 are the bits of one number
-information-bits : (f pilots : ℕ) → pilots ≤ 1 → bitsOf 6 (2 * f + pilots) ≡ information f pilots
+-- b0 to b6 are the bits of one number
+information-bits : (f pilots : ℕ) → pilots ≤ 1 → bitsOf 7 (2 * f + pilots) ≡ information f pilots
 unfolding bitsOf
 information-bits f pilots h =
+    let b0 : (2 * f + pilots) / 64 % 2 ≡ f / 32 % 2 = omega arith in
     let b1 : (2 * f + pilots) / 32 % 2 ≡ f / 16 % 2 = omega arith in
     let b2 : (2 * f + pilots) / 16 % 2 ≡ f / 8 % 2 = omega arith in
     let b3 : (2 * f + pilots) / 8 % 2 ≡ f / 4 % 2 = omega arith in
     let b4 : (2 * f + pilots) / 4 % 2 ≡ f / 2 % 2 = omega arith in
     let b5 : (2 * f + pilots) / 2 % 2 ≡ f % 2 = omega arith in
     let b6 : (2 * f + pilots) / 1 % 2 ≡ pilots = omega arith in
-    rw (b1, b2, b3, b4, b5, b6)
+    rw (b0, b1, b2, b3, b4, b5, b6)
 
 -- a word that has the doubled rows' sum, scrambled
 pub descriptor-bits : (f pilots : ℕ) → pilots ≤ 1 → (word scramble : ℕ)
-    → bitsOf wordLength word ≡ addRows (twice (replicate codeLength 0)) (bitsOf 6 (2 * f + pilots)) (map twice G)
+    → bitsOf wordLength word ≡ addRows (twice (replicate codeLength 0)) (bitsOf 7 (2 * f + pilots)) (map twice G)
     → bitsOf wordLength scramble ≡ scrambling
     → bitsOf wordLength (bitXor word scramble) ≡ descriptor f pilots
 unfolding descriptor
@@ -117,3 +118,8 @@ descriptor-length f pilots =
     let ys = coded (information f pilots) in
     let many : length (twice ys) ≡ descriptorLength = omega (arith, length-twice ys, length-rows codeLength 0 (replicate codeLength 0) (information f pilots) G refl refl) in
     ⊕*-length (twice ys) scrambling many ∙ many
+
+-- up to 31, b0 is 0 and the first row is left out: what is added are the six rows of 000
+pub six-rows : (f pilots : ℕ) → f < 32 → coded (information f pilots) ≡ addRows (replicate codeLength 0) (drop 1 (information f pilots)) (drop 1 G)
+unfolding G
+six-rows f pilots h = let z : f / 32 % 2 ≡ 0 = omega arith in rw z

@@ -1,4 +1,4 @@
--- The frame descriptor (5.2.1).
+-- The frame descriptor (5.2.1; 004, 5.3.3, whose code has one row more).
 use mathlib.Core.List.{List, [], _∷_}
 use Prim.Native.Nat.{ℕ, _*_, _/_, _%_}
 use lib.Dec.{eqb}
@@ -6,7 +6,7 @@ use lib.ListN.{replicate}
 use Rattle.bits.specs.Choice.{if_then_else_}
 use Rattle.bits.specs.Sum.{_⊕*_}
 
--- bits of the (32, 6) code, each of which is sent twice
+-- bits of the (32, 7) code, each of which is sent twice
 abbrev pub codeLength : ℕ
 codeLength = 32
 
@@ -16,13 +16,15 @@ descriptorLength = 2 * codeLength
 abbrev pub pilotsOff : ℕ
 pilotsOff = 0
 
--- b1 to b6 (table 5-1): the five bits of the format number, the most significant first, and the bit for pilots, 1 for on
+-- b0 to b6 (004, table 5-4): the six bits of the format number, the most significant first, and the bit for pilots, 1 for on
 abbrev pub information : ℕ → ℕ → List ℕ
-information f pilots = f / 16 % 2 ∷ f / 8 % 2 ∷ f / 4 % 2 ∷ f / 2 % 2 ∷ f % 2 ∷ pilots ∷ []
+information f pilots = f / 32 % 2 ∷ f / 16 % 2 ∷ f / 8 % 2 ∷ f / 4 % 2 ∷ f / 2 % 2 ∷ f % 2 ∷ pilots ∷ []
 
--- the generator matrix of the (32, 6) code (figure 5-4)
+-- the generator matrix of the (32, 7) code (004, figure 5-7): a first row, hexadecimal 90AC2DDD, and the six of 000 (figure 5-4), of which our copy of
+-- 004 prints the fifth with a digit too many
 unfoldable pub G : List (List ℕ)
 G =
+    (1 ∷ 0 ∷ 0 ∷ 1 ∷ 0 ∷ 0 ∷ 0 ∷ 0 ∷ 1 ∷ 0 ∷ 1 ∷ 0 ∷ 1 ∷ 1 ∷ 0 ∷ 0 ∷ 0 ∷ 0 ∷ 1 ∷ 0 ∷ 1 ∷ 1 ∷ 0 ∷ 1 ∷ 1 ∷ 1 ∷ 0 ∷ 1 ∷ 1 ∷ 1 ∷ 0 ∷ 1 ∷ []) ∷
     (0 ∷ 1 ∷ 0 ∷ 1 ∷ 0 ∷ 1 ∷ 0 ∷ 1 ∷ 0 ∷ 1 ∷ 0 ∷ 1 ∷ 0 ∷ 1 ∷ 0 ∷ 1 ∷ 0 ∷ 1 ∷ 0 ∷ 1 ∷ 0 ∷ 1 ∷ 0 ∷ 1 ∷ 0 ∷ 1 ∷ 0 ∷ 1 ∷ 0 ∷ 1 ∷ 0 ∷ 1 ∷ []) ∷
     (0 ∷ 0 ∷ 1 ∷ 1 ∷ 0 ∷ 0 ∷ 1 ∷ 1 ∷ 0 ∷ 0 ∷ 1 ∷ 1 ∷ 0 ∷ 0 ∷ 1 ∷ 1 ∷ 0 ∷ 0 ∷ 1 ∷ 1 ∷ 0 ∷ 0 ∷ 1 ∷ 1 ∷ 0 ∷ 0 ∷ 1 ∷ 1 ∷ 0 ∷ 0 ∷ 1 ∷ 1 ∷ []) ∷
     (0 ∷ 0 ∷ 0 ∷ 0 ∷ 1 ∷ 1 ∷ 1 ∷ 1 ∷ 0 ∷ 0 ∷ 0 ∷ 0 ∷ 1 ∷ 1 ∷ 1 ∷ 1 ∷ 0 ∷ 0 ∷ 0 ∷ 0 ∷ 1 ∷ 1 ∷ 1 ∷ 1 ∷ 0 ∷ 0 ∷ 0 ∷ 0 ∷ 1 ∷ 1 ∷ 1 ∷ 1 ∷ []) ∷

@@ -33,8 +33,9 @@ const MARKER: [u64; 4] = [
     0x9485CDECE51AF141,
 ];
 
-// The rows of G (figure 5-4), each symbol twice.
-const ROWS: [u64; 6] = [
+// The rows of G (004, figure 5-7), each symbol twice.
+const ROWS: [u64; 7] = [
+    0xC300CCF00CF3F3F3,
     0x3333333333333333,
     0x0F0F0F0F0F0F0F0F,
     0x00FF00FF00FF00FF,

@@ -17,7 +17,7 @@ use Rattle.encoder.proofs.Codewords.{codeword-length}
 use Rattle.ascii.specs.Text.{separator, decimal, line}
 use Rattle.ascii.proofs.Decimal.{decimal-length}
 use Rattle.row.specs.Row.{block, ones, rowOf}
-use Rattle.row.proofs.Rows.{ones-most}
+use Rattle.row.proofs.Rows.{block-length, ones-most}
 use Rattle.job_line.specs.Line.{longestLine, isLine, formatIn, patternIn}
 use Rattle.job_line.specs.Job.{jobNumber}
 use Rattle.job_line.proofs.Lines.{line-short}
@@ -36,7 +36,7 @@ row-length f p h =
     let r = rowOf f p in
     let w = within f h in
     let most = ones-most (codeword f (block p (formatOf f .k))) in
-    let long = codeword-length f h (block p (formatOf f .k)) in
+    let long = codeword-length f h (block p (formatOf f .k)) (block-length p (formatOf f .k)) in
     let rest₁ = number-length (r .k) (r .i ∷ r .n ∷ r .ones ∷ []) (omega (arith, w .most-k)) in
     let rest₂ = number-length (r .i) (r .n ∷ r .ones ∷ []) (omega (arith, w .most-i)) in
     let rest₃ = number-length (r .n) (r .ones ∷ []) (omega (arith, w .most-n)) in

@@ -1,13 +1,13 @@
 -- Labels, a column at a time: what one more column makes of them, their bounds and their places.
-use mathlib.Core.Path.{_≡_, refl, sym, ap, _∙_}
+use mathlib.Core.Path.{_≡_, refl, sym, ap, ap₂, _∙_}
 use mathlib.Core.Bool.{true}
 use mathlib.Core.List.{List, [], _∷_, _++_, append-nil, append-assoc}
-use Prim.Native.Nat.{ℕ, zero, suc, _+_, _-_, _*_, _^_, _≤_, _<_}
-use native.Mathlib.Nat.{pow-suc, add-zero}
+use Prim.Native.Nat.{ℕ, zero, suc, _+_, _-_, _*_, _/_, _%_, _^_, _≤_, _<_}
+use native.Mathlib.Nat.{pow-suc, pow-succ', add-zero, div-div-eq-div-mul}
 use native.Mathlib.Numerals.{add-one}
 use native.Mathlib.Omega.{arith}
 use borrow.Author.Tests.{le-leb}
-use lib.ListN.{length, getD, drop, take, set, replicate, length-drop}
+use lib.ListN.{length, getD, drop, take, set, replicate, length-drop, List·getD-append}
 use lib.Seq.{length-take-le, take-suc-set, drop-set-lt, getD-take, getD-drop}
 use lib.Pow.{pow-mono, le-ones}
 use Rattle.bits.specs.Digits.{value}
@@ -115,6 +115,30 @@ labels-get m codeword rest r h =
 pub label-at : (m : ℕ) (codeword : List ℕ) (r : ℕ) → r < symbols → getD (labels m codeword) r 0 ≡ label m codeword r
 label-at m codeword r h =
     ap (λ (l : List ℕ). getD l r 0) (sym (append-nil (labels m codeword))) ∙ labels-get m codeword [] r h
+
+-- the first m bits of a label are a label of m bits; its last is the codeword's in the last column
+pub label-first : (h m : ℕ) (codeword : List ℕ) (r : ℕ) → allBits codeword ≡ true → label (h + m) codeword r / 2 ^ h ≡ label m codeword r
+label-first zero m codeword r b =
+    let z : 0 + m ≡ m = omega arith in
+    rw z (omega arith)
+label-first (suc h) m codeword r b =
+    let more : suc h + m ≡ suc (h + m) = omega arith in
+    let half : label (suc (h + m)) codeword r / 2 ≡ label (h + m) codeword r = omega (arith, label-next (h + m) codeword r, legal-at 1 codeword b (r + (h + m) * symbols)) in
+    ap₂ (λ (n d : ℕ). label n codeword r / d) more (pow-succ' 2 h)
+    ∙ sym (div-div-eq-div-mul (label (suc (h + m)) codeword r) 2 (2 ^ h))
+    ∙ ap (λ (n : ℕ). n / 2 ^ h) half
+    ∙ label-first h m codeword r b
+
+pub label-last : (m : ℕ) (codeword : List ℕ) (r : ℕ) → allBits codeword ≡ true → label (suc m) codeword r % 2 ≡ getD codeword (r + m * symbols) 0
+label-last m codeword r b = omega (arith, label-next m codeword r, legal-at 1 codeword b (r + m * symbols))
+
+-- bits behind the m columns do not show in labels of m bits
+pub label-front : (m : ℕ) (a b : List ℕ) (r : ℕ) → r < symbols → symbols * m ≤ length a → label m (a ++ b) r ≡ label m a r
+label-front zero a b r h e = refl
+label-front (suc m) a b r h e =
+    label-next m (a ++ b) r
+    ∙ ap₂ (λ (n d : ℕ). 2 * n + d) (label-front m a b r h (omega arith)) (List·getD-append a b 0 (r + m * symbols) (omega arith))
+    ∙ sym (label-next m a r)
 
 -- what column c, lent, and the labels of c bits before it are like; n is 8,100 as the code computes it
 module _ (c m n : ℕ) (codeword out rest : List ℕ) (bits : allBits codeword ≡ true) (low : c < m) (high : m ≤ 8) (long : length codeword ≡ symbols * m)

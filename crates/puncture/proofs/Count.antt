@@ -29,12 +29,16 @@ tested : below (λ g. keeps-S (formatOf (suc g)) (pattern (formatOf (suc g) .sur
 unfolding formatOf formats pattern positions
 tested = refl
 
--- P as table 4-3 prints it
+-- P as table 4-3 prints it, and for 28 to 37 table 4-1 of 004
 abbrev printed-P : List ℕ
 printed-P =
     7558 ∷ 5758 ∷ 4690 ∷ 3849 ∷ 3000 ∷ 1810 ∷ 7830 ∷ 8458 ∷ 5698 ∷ 4361 ∷ 3082 ∷ 1443 ∷ 7918 ∷ 6659 ∷ 5349 ∷ 3885 ∷ 2520 ∷ 8745 ∷ 7363 ∷ 5823 ∷
     4303 ∷ 2698 ∷ 9234 ∷ 7558 ∷ 6093 ∷ 4685 ∷ 3171 ∷
+    7918 ∷ 6659 ∷ 5349 ∷ 3885 ∷ 2520 ∷ 7918 ∷ 6659 ∷ 5349 ∷ 3885 ∷ 2520 ∷
     []
+
+printed-P-all : length printed-P ≡ lastFormat
+printed-P-all = refl
 
 -- P = I - Δ + 2, in every line
 printed-P-right : every (λ g printed. eqb (P (formatOf (suc g))) printed) 0 printed-P ≡ true

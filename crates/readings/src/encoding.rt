@@ -1,4 +1,4 @@
-// encode and labels, in format 1: K is 5,758, I 8,640, N 16,200.
+// encode and labels, most of them in format 1: K is 5,758, I 8,640, N 16,200.
 use crate::buffers::print_changed;
 use crate::buffers::set_last;
 use crate::row::Row;

@@ -1,4 +1,4 @@
-// frame, section and compare; the rows are of format 1, whose labels are below 4, and a few of format 27, below 64.
+// frame, section and compare; the rows are of format 1, whose labels are below 4, and a few of formats 27, 28 and 37, below 64, 128 and 256.
 use crate::buffers::element;
 use crate::buffers::front_slots;
 use crate::buffers::print_changed_slots;

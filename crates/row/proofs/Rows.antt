@@ -87,4 +87,4 @@ module _ (f : ℕ) (h : isFormat f ≡ true) (p : ℕ) (work out : List ℕ) whe
       subst
       (λ (r : Format). r .i ≤ length work → r .n ≤ length out → take (r .n) (encodeOutput f (block p (r .k)) work out) ≡ codeword f (block p (r .k)))
       (sym is)
-      (λ room room′. rw (eq-eqb _ _ (fits room room′)) (take-at _ _ _ (codeword-length f h (block p (formatOf f .k)))))
+      (λ room room′. rw (eq-eqb _ _ (fits room room′)) (take-at _ _ _ (codeword-length f h (block p (formatOf f .k)) (block-length p (formatOf f .k)))))

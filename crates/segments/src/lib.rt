@@ -41,6 +41,7 @@ pub fn encode_segments(
     let k1 = f.k1;
     let of_outer = outer_segments::steps::encode(&block[..k1], outer, work);
     let of_inner = inner_segments::steps::encode(format, inner, work, out);
+    encoder::steps::put_pieces(format, block, out);
     Segmented {
         number: checks::PASSED,
         outer: of_outer,

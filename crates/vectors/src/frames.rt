@@ -1,4 +1,4 @@
-// For five ACM formats, the digests of the frame marker, the frame descriptor, the labels of sixteen seeded blocks, and their frame.
+// For every ACM format, the digests of the frame marker, the frame descriptor, the labels of sixteen seeded blocks, and their frame.
 use framing::FRAME_LABELS;
 use framing::FRAME_LENGTH;
 use libc::STDOUT_FILENO;
@@ -20,11 +20,11 @@ const WHOLE: u16 = 65535;
 
 pub(crate) fn run() {
     io::write_all(STDOUT_FILENO, b"format,marker,descriptor,labels,frame\n");
-    print_frame(1);
-    print_frame(7);
-    print_frame(13);
-    print_frame(18);
-    print_frame(27);
+    let mut format: u64 = 1;
+    while format <= acm::LAST {
+        print_frame(format);
+        format += 1;
+    }
 }
 
 fn print_frame(format: u64) {

@@ -1,4 +1,4 @@
-// Prints digests of what the calls give for known blocks: codewords and labels of every ACM format, and frames of five.
+// Prints digests of what the calls give for known blocks: codewords, labels and frames of every ACM format.
 mod codewords;
 mod frames;
 

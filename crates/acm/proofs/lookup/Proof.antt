@@ -1,4 +1,4 @@
--- A number from 1 to 27 has a record, and no other number has one.
+-- A number from 1 to 37 has a record, and no other number has one.
 use borrow.Author.Tests.{le-leb, lt-leb}
 use Rattle.acm.proofs.lookup.Statement.{statement}
 use Rattle.acm.proofs.lookup.Tie as tie

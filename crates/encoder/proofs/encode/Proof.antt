@@ -1,19 +1,21 @@
--- A call that fails a check returns before it writes; one that passes writes the outer kept bits and, from them, the codeword.
+-- A call that fails a check returns before it writes; one that passes writes the outer kept bits and, from them, the codeword's trellis part, and
+-- behind it the pieces.
 use mathlib.Core.Path.{_≡_, sym, ap, _∙_}
 use mathlib.Core.List.{List, _++_}
 use Prim.Native.Nat.{ℕ}
 use native.Mathlib.Omega.{arith}
 use borrow.Author.Needs.{needs}
 use lib.ListN.{length, take, drop}
+use lib.Seq.{sets}
 use Rattle.bits.specs.Checks.{passed}
 use Rattle.bits.proofs.Passed.{when-passed, when-refused}
 use Rattle.acm.specs.Formats.{formatOf, N1}
 use Rattle.trellis.specs.Trellis.{outer}
 use Rattle.inner.specs.Registers.{fromOuter}
-use Rattle.encoder.specs.Codeword.{trellisPart}
+use Rattle.encoder.specs.Codeword.{trellisPart, hardCoded}
 use Rattle.encoder.specs.Calls.{encodeNumber, encodeWorkspace, encodeOutput}
 use Rattle.encoder.proofs.Checked.{EncodePassed, encode-passed}
-use Rattle.encoder.proofs.Codewords.{part-even, lent-is, lent-long, outer-long, trellis-room, trellis-written}
+use Rattle.encoder.proofs.Codewords.{part-even, lent-is, lent-long, outer-long, trellis-room, both-written}
 use Rattle.encoder.proofs.encode.Statement.{statement}
 use Rattle.encoder.proofs.encode.Tie as tie
 
@@ -28,8 +30,12 @@ abbrev lent : tie.After-outer → tie.After-parameters
 lent w = w .before .before .before
 
 -- what a call that has passed knows of its arguments
+zero : (c : tie.Else1)
+    → (let a = start (c .before) .args in encodeNumber (a .format) (a .block .now) (length (a .work .now)) (length (a .out .now)) ≡ passed)
+zero c = sym (c .before .check-encode .ensures) ∙ c .if1 .left
+
 passed-of : (c : tie.Else1) → (let a = start (c .before) .args in EncodePassed (a .format) (a .block .now) (length (a .work .now)) (length (a .out .now)))
-passed-of c = encode-passed _ _ _ _ (sym (c .before .check-encode .ensures) ∙ c .if1 .left)
+passed-of c = encode-passed _ _ _ _ (zero c)
 
 -- the part of the block that is lent to the outer trellis, and how many of its bits are kept
 module _ (p : tie.After-parameters) where
@@ -78,6 +84,12 @@ encode-requires c κs =
     let p = lent w in
     (passes p .known, omega (arith, w .outer .kept .1 .0, passes p .work-fits), trellis-room _ (passes p .known) (passes p .out-fits))
 
+put-pieces-requires : tie.Need-put-pieces-requires
+put-pieces-requires c κs =
+    let e = c .before .before .before in
+    let p = lent (written (e .before)) in
+    (passes p .known, passes p .long, passes p .bits, omega (arith, e .encode .kept .1 .1 .0, passes p .out-fits))
+
 same-length : tie.Need-same-length
 same-length c = search needs
 
@@ -87,18 +99,20 @@ same-length-2 c = search needs
 returns-2 : tie.Need-returns-2
 unfolding encodeWorkspace encodeOutput
 returns-2 c =
-    let w = written (c .before .before .before) in
+    let t = c .before .before .before .before .before .before in
+    let w = written (t .before) in
     let p = lent w in
     let d = p .before in
     let a = s p .args in
-    let e = sym (d .before .check-encode .ensures) ∙ d .if1 .left in
+    let e = zero d in
     let work = w .outer .ensures ∙ ap (λ (l : List ℕ). outer l ++ drop (length (outer l)) (a .work .now)) (part-is p) in (
       sym e,
       (
         work ∙ ap (λ (n : ℕ). outer (trellisPart (a .format) (a .block .now)) ++ drop n (a .work .now)) (long-of p) ∙ when-passed _ _ _ e,
-        c .before .before .encode .ensures
-            ∙ ap (λ (l : List ℕ). fromOuter (a .format) l ++ drop (N1 (formatOf (a .format))) (a .out .now)) work
-            ∙ trellis-written (a .format) (passes p .known) (a .block .now) (passes p .long) _ (a .out .now)
+        c .before .before .put-pieces .ensures
+            ∙ ap (λ (l : List ℕ). sets l (N1 (formatOf (a .format))) (hardCoded (a .format) (a .block .now)))
+            (t .encode .ensures ∙ ap (λ (l : List ℕ). fromOuter (a .format) l ++ drop (N1 (formatOf (a .format))) (a .out .now)) work)
+            ∙ both-written (a .format) (passes p .known) (a .block .now) (passes p .long) _ (a .out .now) (passes p .out-fits)
             ∙ when-passed _ _ _ e,
       ),
     )
@@ -113,6 +127,7 @@ encode-spec =
     slice-aggregate-outer
     outer-requires
     encode-requires
+    put-pieces-requires
     same-length
     same-length-2
     returns-2)

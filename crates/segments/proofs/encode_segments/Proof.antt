@@ -1,20 +1,22 @@
--- A call that fails a check returns before it writes; one that passes leaves what encode leaves, since the segmented trellises do.
+-- A call that fails a check returns before it writes; one that passes leaves what encode leaves, since the segmented trellises do, and the pieces
+-- are written as encode writes them.
 use mathlib.Core.Path.{_≡_, sym, ap, ap₂, subst, _∙_}
 use mathlib.Core.List.{List, _++_}
 use Prim.Native.Nat.{ℕ}
 use native.Mathlib.Omega.{arith}
 use borrow.Author.Needs.{needs}
 use lib.ListN.{length, take, drop}
+use lib.Seq.{sets}
 use Rattle.bits.specs.Checks.{passed}
 use Rattle.bits.proofs.Passed.{when-passed, when-refused}
 use Rattle.acm.specs.Formats.{formatOf, N1}
 use Rattle.trellis.specs.Trellis.{outer}
 use Rattle.interleaver.specs.Interleaver.{π}
 use Rattle.inner.specs.Registers.{interleaved, fromOuter}
-use Rattle.encoder.specs.Codeword.{trellisPart}
+use Rattle.encoder.specs.Codeword.{trellisPart, hardCoded}
 use Rattle.encoder.specs.Calls.{encodeWorkspace, encodeOutput}
 use Rattle.encoder.proofs.Checked.{EncodePassed, encode-passed}
-use Rattle.encoder.proofs.Codewords.{part-bits, part-long, part-even, lent-is, lent-long, outer-long, trellis-room, trellis-written}
+use Rattle.encoder.proofs.Codewords.{part-bits, part-long, part-even, lent-is, lent-long, outer-long, trellis-room, both-written}
 use Rattle.cuts.specs.Cuts.{Cuts, statesOf}
 use Rattle.cuts.specs.declared.States.{States}
 use Rattle.segments.specs.Calls.{segmentsNumber, refused as refusal, segmented, segmentsWorkspace, segmentsOutput}
@@ -122,6 +124,12 @@ encode-requires-2 c κs =
       ),
     )
 
+put-pieces-requires : tie.Need-put-pieces-requires
+put-pieces-requires c κs =
+    let n = c .before .before .before in
+    let h = encodes (past (lent (written (n .before)))) in
+    (h .known, h .long, h .bits, omega (arith, n .encode2 .kept .1 .1 .1 .0, h .out-fits))
+
 same-length : tie.Need-same-length
 same-length c = search needs
 
@@ -131,7 +139,7 @@ same-length-2 c = search needs
 returns-2 : tie.Need-returns-2
 unfolding segmented segmentsWorkspace segmentsOutput encodeWorkspace encodeOutput
 returns-2 c =
-    let n = c .before .before in
+    let n = c .before .before .before .before .before .before in
     let w = written (n .before) in
     let p = lent w in
     let d = past p in
@@ -144,9 +152,10 @@ returns-2 c =
       ap₂ {C = Segmented} (λ (o i : States). (record { number = passed; outer = o; inner = i })) outer-states inner-states ∙ when-passed _ _ _ (zero d),
       (
         work ∙ ap (λ (n : ℕ). outer (part p) ++ drop n (a .work .now)) (long p) ∙ when-passed _ _ _ (sound d .encodes) ∙ when-passed _ _ _ (zero d),
-        n .encode2 .ensures .1
-            ∙ ap (λ (l : List ℕ). fromOuter f l ++ drop (N1 (formatOf f)) (a .out .now)) work
-            ∙ trellis-written f (h .known) (a .block .now) (h .long) _ (a .out .now)
+        c .before .before .put-pieces .ensures
+            ∙ ap (λ (l : List ℕ). sets l (N1 (formatOf f)) (hardCoded f (a .block .now)))
+            (n .encode2 .ensures .1 ∙ ap (λ (l : List ℕ). fromOuter f l ++ drop (N1 (formatOf f)) (a .out .now)) work)
+            ∙ both-written f (h .known) (a .block .now) (h .long) _ (a .out .now) (h .out-fits)
             ∙ when-passed _ _ _ (sound d .encodes) ∙ when-passed _ _ _ (zero d),
       ),
     )
@@ -163,6 +172,7 @@ encode-segments-spec =
     slice-aggregate-encode
     encode-requires
     encode-requires-2
+    put-pieces-requires
     same-length
     same-length-2
     returns-2)
