@@ -1,12 +1,13 @@
 /*
- * sccc.h: the SCCC encoder of CCSDS 131.2-O-1 for C and C++, from transfer frames to information
- * blocks, from a block to its codeword, the codeword's labels and a frame without pilots, and a
- * comparison of two label lists. Link build/libsccc.a or build/libsccc.so (x86-64 Linux).
+ * sccc.h: the SCCC encoder of CCSDS 131.2-O-1 and of its extension to 128APSK and 256APSK (document
+ * 004 here: formats 28 to 37) for C and C++, from transfer frames to information blocks, from a
+ * block to its codeword, the codeword's labels and a frame without pilots, and a comparison of two
+ * label lists. Link build/libsccc.a or build/libsccc.so (x86-64 Linux).
  *
  * Data      A bit is a byte, 0 or 1. A label is a byte below 2^m. A slot of a frame is a uint16_t,
  *           and so is a cut of a trellis' input. An octet of a transfer frame is a byte. Places and
  *           positions count from 0. K, K1, I, W, N and m are those of the ACM format; K1 is K in
- *           formats 1 to 27.
+ *           formats 1 to 27, less in the others.
  *
  * Answers   A call makes its checks in the order that is given with it. The number of the first
  *           one that fails is the answer, 0 if none does. Every argument has an answer: a number
@@ -25,11 +26,11 @@
  *           a call's buffers, or reads those that it writes, before it returns. A call takes less
  *           than 32 KiB of stack.
  *
- * WARNING: FORMATS 12 AND 14 ARE PROVISIONAL. Ten rows of their interleaver's table (annex C, size
- * 32,040, rows 257 to 266) are missing from the copy of the standard that was at hand. Others stand
- * in for them, so what sccc_interleave, sccc_encode and sccc_encode_segments give for these two
- * formats is not the standard's. A program learns it from the field provisional of sccc_format's
- * answer.
+ * WARNING: FORMATS 12, 14, 29 AND 34 ARE PROVISIONAL. Ten rows of their interleaver's table (annex
+ * C, size 32,040, rows 257 to 266) are missing from the copy of the standard that was at hand.
+ * Others stand in for them, so what sccc_interleave, sccc_encode and sccc_encode_segments give for
+ * these four formats is not the standard's. A program learns it from the field provisional of
+ * sccc_format's answer.
  */
 #ifndef SCCC_H
 #define SCCC_H
@@ -43,7 +44,7 @@ extern "C" {
 
 /* The checks' numbers. 6 and 7 belong to the bench program's job line, and no call gives them. */
 #define SCCC_PASSED 0           /* every check holds */
-#define SCCC_BAD_FORMAT 1       /* the format is not 1 to 27 */
+#define SCCC_BAD_FORMAT 1       /* the format is not 1 to 37 */
 #define SCCC_BAD_LENGTH 2       /* a list is not as long as the call takes, or too many bits wait */
 #define SCCC_BAD_ELEMENT 3      /* a bit is not 0 or 1, a label not below 2^m, a state not 0 to 3 */
 #define SCCC_SHORT_WORKSPACE 4  /* the workspace or a slicer's memory is too short */
@@ -56,15 +57,15 @@ extern "C" {
 #define SCCC_BAD_CUT 13         /* a cut falls below the one before it, or lies beyond the input */
 
 /* Sizes that all formats share, and the largest of those that they do not. */
-#define SCCC_FORMATS 27          /* the formats are 1 to 27 */
+#define SCCC_FORMATS 37          /* the formats are 1 to 37 */
 #define SCCC_SYMBOLS 8100        /* labels of a codeword */
 #define SCCC_SECTIONS 16         /* codewords of a frame */
 #define SCCC_FRAME_LABELS 129600 /* labels of a frame */
 #define SCCC_FRAME_SLOTS 129920  /* slots of a frame */
 #define SCCC_SEGMENTS 16         /* segments of a trellis' input, at most */
-#define SCCC_MAX_K 43678         /* bits of a block */
+#define SCCC_MAX_K 60510         /* bits of a block */
 #define SCCC_MAX_I 65520         /* bytes of a workspace */
-#define SCCC_MAX_N 48600         /* bits of a codeword */
+#define SCCC_MAX_N 64800         /* bits of a codeword */
 
 /* The slicer's sizes. */
 #define SCCC_LEAST_TRANSFER_FRAME 223  /* octets of a transfer frame, at least */
@@ -73,7 +74,7 @@ extern "C" {
 
 /*
  * provisional: 1 where the interleaver has rows that stand in for published ones, else 0
- * k1, k2: bits of a block that go through the trellises, its first, and that are coded otherwise
+ * k1, k2: bits of a block that go through the trellises, its first, and that the BCH code covers
  * soft: bits of a label that come from the trellises
  */
 typedef struct {
@@ -136,14 +137,15 @@ typedef struct {
 } sccc_look_answer;
 
 /*
- * sccc_format: an ACM format's parameters (tables 4-1, 4-3).
+ * sccc_format: an ACM format's parameters (tables 4-1, 4-3; 004, tables 3-1, 4-1, 5-3).
  *
  * Computes  m, the bits of a label; K, of a block; I, the length of the interleaver; W = I / 120;
  *           N, the bits of a codeword; whether the format is provisional (see above); and the
- *           soft share: K1, the bits of a block that go through the trellises, K2, those that are
- *           coded otherwise, and the soft bits, those of a label that come from the trellises.
- *           K is K1 + K2, and 2 I is 3 (K1 + 2); in formats 1 to 27 the three are K, 0 and m.
- * Checks    1  the format is 1 to 27
+ *           soft share: K1, the bits of a block that go through the trellises, K2, those that the
+ *           BCH code covers, and the soft bits, those of a label that come from the trellises. K is
+ *           K1 + K2, and 2 I is 3 (K1 + 2). In formats 1 to 27 the three are K, 0 and m; in formats
+ *           28 to 37 K1 is the K of a format from 13 to 17, K2 is 8,048 (m - 4), and soft is 4.
+ * Checks    1  the format is 1 to 37
  * Success   number is 0, and the other fields are the format's.
  * Refusal   number is the check's, and every other field is 0.
  */
@@ -181,7 +183,7 @@ sccc_run_answer sccc_run(uint64_t state, const uint8_t *bits, size_t bits_len, u
  *
  * Computes  the interleaved position of a position in the upper register: the upper register has
  *           there the outer kept bit of that number.
- * Checks    1  the format is 1 to 27
+ * Checks    1  the format is 1 to 37
  *           8  the position is below I
  * Success   number is 0, and position is the interleaved position, below I.
  * Refusal   number is the check's, and position is 0.
@@ -189,10 +191,14 @@ sccc_run_answer sccc_run(uint64_t state, const uint8_t *bits, size_t bits_len, u
 sccc_interleaved sccc_interleave(uint64_t format, uint64_t position);
 
 /*
- * sccc_encode: the encoder (4.1 to 4.4).
+ * sccc_encode: the encoder (4.1 to 4.4; 004, 4.1 to 4.3).
  *
- * Computes  the codeword of an information block.
- * Checks    1  the format is 1 to 27
+ * Computes  the codeword of an information block: what the two trellises make of its first K1 bits,
+ *           8,100 bits for each soft bit of a label, and in formats 28 to 37 behind it the other
+ *           bits, 8,048 at a time, each time with the 52 check bits of the BCH code. The check bits
+ *           are those of 91 zeros and then the 8,048 bits: figure 4-3 of 004 draws the zeros behind
+ *           the bits, which would give others.
+ * Checks    1  the format is 1 to 37
  *           2  block_len is K
  *           3  each element of block is 0 or 1
  *           4  work_len is at least I
@@ -215,7 +221,7 @@ uint8_t sccc_encode(uint64_t format, const uint8_t *block, size_t block_len, uin
  *           ends where the next begins, the last at the input's end. Equal cuts make an empty
  *           segment, as do a cut at 0 and one at the end. The two lists may overlap, since neither
  *           is written.
- * Checks    1   the format is 1 to 27
+ * Checks    1   the format is 1 to 37
  *           2   block_len is K
  *           3   each element of block is 0 or 1
  *           4   work_len is at least I
@@ -236,10 +242,10 @@ sccc_segments_answer sccc_encode_segments(uint64_t format, const uint8_t *block,
                                           size_t inner_len);
 
 /*
- * sccc_labels: the row-column interleaver and the labels (4.5, 4.6).
+ * sccc_labels: the row-column interleaver and the labels (4.5, 4.6; 004, 4.4).
  *
  * Computes  the 8,100 labels of a codeword, of m bits each; the first bit weighs most.
- * Checks    1  the format is 1 to 27
+ * Checks    1  the format is 1 to 37
  *           2  codeword_len is N
  *           3  each element of codeword is 0 or 1
  *           5  out_len is at least 8,100
@@ -251,12 +257,12 @@ uint8_t sccc_labels(uint64_t format, const uint8_t *codeword, size_t codeword_le
                     size_t out_len);
 
 /*
- * sccc_frame: the physical layer frame without pilots (5).
+ * sccc_frame: the physical layer frame without pilots (5; 004, 5.3).
  *
  * Computes  the slots of a frame: 256 bits of the frame marker, 64 bits of the frame descriptor,
  *           then the labels of sixteen codewords. A marker or descriptor bit is 256 for 0 and 257
  *           for 1; a label's slot is the label.
- * Checks    1  the format is 1 to 27
+ * Checks    1  the format is 1 to 37
  *           2  labels_len is 129,600
  *           3  each element of labels is below 2^m
  *           5  out_len is at least 129,920
@@ -286,7 +292,7 @@ sccc_section_range sccc_section(const uint8_t *labels, size_t labels_len, uint64
  * Computes  whether two lists of a format's labels are the same; if not, in how many bits the
  *           labels differ, added over all places, and the first place at which they do. a and b
  *           may overlap, since neither is written.
- * Checks    1  the format is 1 to 27
+ * Checks    1  the format is 1 to 37
  *           2  a_len and b_len are 8,100
  *           3  each element of a and of b is below 2^m
  * Success   number is 0. Lists that are the same have same 1, and 0 in count and first; others
@@ -316,7 +322,7 @@ sccc_slicer sccc_slicer_new(uint64_t format);
  *
  * Computes  what the frame puts on the channel: the 32 bits of 1ACFFC1D, hexadecimal, then the
  *           frame's octets, heaviest bit first, randomized from the frame's first bit on.
- * Checks    1   the slicer's format is 1 to 27
+ * Checks    1   the slicer's format is 1 to 37
  *           9   frame_len is 223 to 65,536
  *           10  the slicer's frame_length is 0 or frame_len
  *           11  fewer than K bits wait
@@ -335,7 +341,7 @@ sccc_slicer_answer sccc_slicer_push(sccc_slicer slicer, const uint8_t *frame, si
  * sccc_slicer_block: an information block out (3.4).
  *
  * Computes  the first K bits that wait, for sccc_encode; or that there are not so many.
- * Checks    1  the slicer's format is 1 to 27
+ * Checks    1  the slicer's format is 1 to 37
  *           2  at most 600,000 bits wait
  *           3  the bytes that wait, of those that are there, are 0 or 1
  *           4  waiting_len is at least 600,000
@@ -356,7 +362,7 @@ sccc_block_answer sccc_slicer_block(sccc_slicer slicer, uint8_t *waiting, size_t
  * Computes  the slicer in the commanded format. The bits that wait are kept, in order: the blocks
  *           taken from now on have the new K, and check 11 of sccc_slicer_push goes by it. The
  *           memory is not needed.
- * Checks    1  the slicer's format and the commanded one are 1 to 27
+ * Checks    1  the slicer's format and the commanded one are 1 to 37
  *           2  at most 600,000 bits wait
  * Success   number is 0, and the slicer has the commanded format; its frame_length and waiting are
  *           as they came.
@@ -371,7 +377,7 @@ sccc_slicer_answer sccc_slicer_change(sccc_slicer slicer, uint64_t format);
  *           bits would stay: what sccc_slicer_change on a copy of the slicer, and then
  *           sccc_slicer_block until wait is 1, would come to. Nothing is altered, and the memory is
  *           not needed.
- * Checks    1  the slicer's format and the one asked about are 1 to 27
+ * Checks    1  the slicer's format and the one asked about are 1 to 37
  *           2  at most 600,000 bits wait
  * Success   number is 0, blocks the number of blocks, and bits the number of bits, fewer than K.
  * Refusal   number is the check's, and blocks and bits are 0.

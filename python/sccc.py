@@ -1,4 +1,4 @@
-"""The SCCC encoder of CCSDS 131.2-O-1, over the shared object libsccc.so.
+"""The SCCC encoder of CCSDS 131.2-O-1 and of its extension (formats 28 to 37), over the shared object libsccc.so.
 
     import sccc
 
@@ -15,8 +15,8 @@ first one that fails; memory lent to it is then as it was. Numbers of any size m
 2^64 + 1, and 2^16 and -1 are no cuts. Memory of the wrong kind (of other elements, not in one piece, read-only where it is to be
 written) raises TypeError, and memory that overlaps ValueError, before any check.
 
-Formats 12 and 14 are provisional: their interleaver has rows that stand in for published ones, so their codewords are not the
-standard's. format_info says so.
+Formats 12, 14, 29 and 34 are provisional: their interleaver has rows that stand in for published ones, so their codewords are not
+the standard's. format_info says so.
 
 Calls may run in several threads at once, and do so without Python's global lock, as long as nothing else writes the memory of
 one before it returns.
@@ -45,8 +45,8 @@ __all__ = [
     "compare",
 ]
 
-#: The formats are 1 to 27.
-FORMATS = 27
+#: The formats are 1 to 37.
+FORMATS = 37
 #: Labels of a codeword.
 SYMBOLS = 8100
 #: Codewords of a frame.
@@ -65,7 +65,7 @@ WAITING_MEMORY = 600000
 
 #: What it means that the check of a number failed.
 MEANINGS = {
-    1: "the format is not 1 to 27",
+    1: "the format is not 1 to 37",
     2: "an input list is not exactly as long as the call takes, or more than 600,000 bits are said to wait",
     3: "a bit is not 0 or 1, a label not below 2^m, or a state not 0 to 3",
     4: "the workspace or a slicer's memory is too short",
@@ -108,7 +108,7 @@ class FormatInfo(NamedTuple):
     provisional: bool
     #: bits of a block that go through the trellises, its first
     k1: int
-    #: bits of a block that are coded otherwise: k is k1 + k2
+    #: bits of a block that the BCH code covers: k is k1 + k2
     k2: int
     #: bits of a label that come from the trellises
     soft: int

@@ -19,7 +19,7 @@ static uint16_t slots[SCCC_FRAME_SLOTS + SPARE];
 static uint8_t transfer[SCCC_MOST_TRANSFER_FRAME + SPARE];
 static uint8_t waiting[SCCC_WAITING_MEMORY + SPARE];
 
-static const uint64_t not_formats[] = {0, 28, 256, 257, UINT64_C(4294967297), UINT64_MAX};
+static const uint64_t not_formats[] = {0, 38, 256, 257, UINT64_C(4294967297), UINT64_MAX};
 static const uint64_t not_small[] = {256, UINT64_C(4294967296), UINT64_MAX};
 
 #define LENGTH(array) (sizeof(array) / sizeof(array)[0])
@@ -37,10 +37,11 @@ static void check(int line, int holds, const char *condition)
     }
 }
 
-/* What an element holds before a call: never what a call would write there by chance alone. */
+/* What an element holds before a call: no bit, no label below 128 and not 255, so never what a call
+ * would write there by chance alone. */
 static unsigned filling(size_t i)
 {
-    return 64 + (unsigned)(i % 191);
+    return 128 + (unsigned)(i % 127);
 }
 
 static void fill(uint8_t *buffer, size_t length)
@@ -95,6 +96,29 @@ static uint8_t *lent_out(uint8_t *list, size_t length)
     return length == 0 ? NULL : list;
 }
 
+/* Document 004, 4.2: the format that encodes the first K1 bits of formats 28 to 37 alike. */
+static uint64_t trellis_format(uint64_t f)
+{
+    return 13 + (f - 28) % 5;
+}
+
+/* Formats 1 to 27 send every bit through the trellises. Of the others document 004's table 3-1 has
+ * the K; K1 and I are those of their trellis format, and the K2 other bits are pieces of 8,048. */
+static void soft_share(uint64_t f, sccc_format_info r)
+{
+    static const uint64_t k[] = {43342, 45502, 47662, 50062, 52462,
+                                 51390, 53550, 55710, 58110, 60510};
+    sccc_format_info t;
+    if (f <= 27) {
+        CHECK(r.m <= 6 && r.k1 == r.k && r.k2 == 0 && r.soft == r.m);
+        return;
+    }
+    t = sccc_format(trellis_format(f));
+    CHECK(r.m == (f <= 32 ? 7 : 8) && r.soft == 4);
+    CHECK(r.k == k[f - 28] && r.k1 == t.k && r.k2 == 8048 * (r.m - 4));
+    CHECK(r.i == t.i && r.w == t.w && r.provisional == t.provisional);
+}
+
 static void format(void)
 {
     uint64_t f, k = 0, i = 0, n = 0;
@@ -104,8 +128,8 @@ static void format(void)
     for (f = 1; f <= SCCC_FORMATS; f++) {
         sccc_format_info r = sccc_format(f);
         CHECK(r.number == SCCC_PASSED);
-        CHECK(r.m >= 2 && r.m <= 6);
-        CHECK(r.k1 == r.k && r.k2 == 0 && r.soft == r.m);
+        CHECK(r.m >= 2 && r.m <= 8);
+        soft_share(f, r);
         CHECK(r.k == r.k1 + r.k2);
         CHECK(2 * r.i == 3 * (r.k1 + 2));
         CHECK(r.i == 120 * r.w);
@@ -116,7 +140,11 @@ static void format(void)
         n = r.n > n ? r.n : n;
     }
     CHECK(k == SCCC_MAX_K && i == SCCC_MAX_I && n == SCCC_MAX_N);
+    CHECK(k == 60510 && i == 65520 && n == 64800);
     CHECK(sccc_format(13).k == 19198 && sccc_format(13).w == 240);
+    /* one interleaver: rows that stand in make all four provisional */
+    CHECK(sccc_format(12).i == 32040 && sccc_format(14).i == 32040);
+    CHECK(sccc_format(29).i == 32040 && sccc_format(34).i == 32040);
     for (j = 0; j < LENGTH(not_formats); j++) {
         sccc_format_info r = sccc_format(not_formats[j]);
         CHECK(r.number == SCCC_BAD_FORMAT);
@@ -257,7 +285,7 @@ static int interleave_refused(uint64_t number, uint64_t f, uint64_t position)
 
 static void interleave(void)
 {
-    static const uint64_t formats[] = {1, 12, 27};
+    static const uint64_t formats[] = {1, 12, 27, 29, 37};
     static uint8_t met[SCCC_MAX_I];
     size_t j;
     uint64_t p;
@@ -308,6 +336,68 @@ static void encode_gives(int line, uint8_t number, uint64_t f, size_t block_len,
 #define ENCODE(number, f, block_len, work_len, out_len)                                            \
     encode_gives(__LINE__, number, f, block_len, work_len, out_len)
 
+/* Whether 8,100 bits are a multiple of document 004's generator polynomial, the first bit being the
+ * highest power's. 4.3.1 prints its coefficients in hexadecimal, that of x^0 first. */
+static int bch_codeword(const uint8_t *bits)
+{
+    const uint64_t printed = UINT64_C(0x1AAC3AB8418945);
+    uint64_t g = 0, rest = 0;
+    size_t j;
+    for (j = 0; j <= 52; j++)
+        g |= (printed >> j & 1) << (52 - j);
+    for (j = 0; j < 8100; j++) {
+        rest = rest << 1 | bits[j];
+        if (rest >> 52)
+            rest ^= g;
+    }
+    return rest == 0;
+}
+
+/* Formats 28 to 37: the codeword of the first K1 bits in their trellis format, and behind it each
+ * piece of 8,048 bits with its 52 check bits. */
+static void two_stages(uint64_t f)
+{
+    static uint8_t plain_work[SCCC_MAX_I], plain_out[SCCC_MAX_N];
+    const uint64_t t = trellis_format(f);
+    const sccc_format_info r = sccc_format(f);
+    const size_t trellis_part = sccc_format(t).n;
+    size_t j;
+    for (j = 0; j < sizeof block; j++)
+        block[j] = (uint8_t)(j * j / 7 % 2);
+    ENCODE(SCCC_PASSED, f, r.k, r.i, r.n);
+    CHECK(sccc_encode(t, block, r.k1, plain_work, r.i, plain_out, trellis_part) == SCCC_PASSED);
+    CHECK(memcmp(work, plain_work, r.i) == 0);
+    CHECK(memcmp(codeword, plain_out, trellis_part) == 0);
+    for (j = 0; j < r.m - 4; j++) {
+        const uint8_t *piece = codeword + trellis_part + 8100 * j;
+        CHECK(memcmp(piece, block + r.k1 + 8048 * j, 8048) == 0);
+        CHECK(bch_codeword(piece));
+    }
+    block[r.k - 1] = 2;
+    ENCODE(SCCC_BAD_ELEMENT, f, r.k, r.i, r.n);
+    ENCODE(SCCC_BAD_LENGTH, f, r.k1, r.i, r.n);
+    block[r.k - 1] = 0;
+    block[r.k1] = 255;
+    ENCODE(SCCC_BAD_ELEMENT, f, r.k, r.i, r.n);
+    memset(block, 0, sizeof block);
+}
+
+/* A single one, at the end of a block: the last piece's check bits are the generator polynomial's
+ * coefficients below x^52, the highest first, and so the digits that 4.3.1 prints, backwards. */
+static void one_at_the_end(uint64_t f)
+{
+    static const char printed[] = "11010101011000011101010111000010000011000100101000101";
+    const sccc_format_info r = sccc_format(f);
+    const uint8_t *last = codeword + r.n - 53;
+    size_t j;
+    block[r.k - 1] = 1;
+    ENCODE(SCCC_PASSED, f, r.k, r.i, r.n);
+    CHECK(all(work, r.i, 0) && all(codeword, r.n - 53, 0));
+    for (j = 0; j <= 52; j++)
+        CHECK(last[j] == printed[52 - j] - '0');
+    block[r.k - 1] = 0;
+}
+
 static void encode(void)
 {
     uint64_t f;
@@ -322,6 +412,10 @@ static void encode(void)
         ENCODE(SCCC_BAD_LENGTH, f, r.k + 1, r.i, r.n);
         ENCODE(SCCC_SHORT_WORKSPACE, f, r.k, r.i - 1, r.n);
         ENCODE(SCCC_SHORT_OUTPUT, f, r.k, r.i, r.n - 1);
+    }
+    for (f = 28; f <= SCCC_FORMATS; f++) {
+        two_stages(f);
+        one_at_the_end(f);
     }
     for (j = 0; j < LENGTH(not_formats); j++) {
         ENCODE(SCCC_BAD_FORMAT, not_formats[j], 5758, 8640, 16200);
@@ -430,7 +524,7 @@ static void segments_give(int line, uint64_t number, uint64_t f, size_t block_le
                              inner.length == 0 ? NULL : inner.places, inner.length);
     if (number == SCCC_PASSED) {
         sccc_encode(f, block, block_len, plain_work, work_len, plain_out, out_len);
-        due.outer = states_of(block, block_len, &outer);
+        due.outer = states_of(block, sccc_format(f).k1, &outer);
         due.inner = states_of(interleaved(f, plain_work), sccc_format(f).i, &inner);
     }
     check(line, r.number == number, "the number of sccc_encode_segments");
@@ -447,25 +541,28 @@ static void segments_give(int line, uint64_t number, uint64_t f, size_t block_le
 #define SEGMENTS(number, f, block_len, work_len, out_len, outer, inner)                            \
     segments_give(__LINE__, number, f, block_len, work_len, out_len, outer, inner)
 
-/* Each format: good cuts, and each way in which a list can be wrong. */
+/* Each format: good cuts, and each way in which a list can be wrong. Outer cuts end at K1. */
 static void segments_of_format(uint64_t f)
 {
     const sccc_format_info r = sccc_format(f);
-    const size_t k = r.k, i = r.i, n = r.n;
+    const size_t k = r.k, k1 = r.k1, i = r.i, n = r.n;
     SEGMENTS(SCCC_PASSED, f, k, i, n, NO_CUTS, NO_CUTS);
-    SEGMENTS(SCCC_PASSED, f, k, i, n, cuts_from(k / 16, k / 16, 15), cuts_from(i / 16, i / 16, 15));
-    SEGMENTS(SCCC_PASSED, f, k, sizeof work, sizeof codeword, CUTS(k / 2), NO_CUTS);
-    SEGMENTS(SCCC_PASSED, f, k, i, n, NO_CUTS, CUTS(i / 3, i / 2, i / 2, k + 1, i - 1));
+    SEGMENTS(SCCC_PASSED, f, k, i, n, cuts_from(k1 / 16, k1 / 16, 15),
+             cuts_from(i / 16, i / 16, 15));
+    SEGMENTS(SCCC_PASSED, f, k, sizeof work, sizeof codeword, CUTS(k1 / 2), NO_CUTS);
+    SEGMENTS(SCCC_PASSED, f, k, i, n, NO_CUTS, CUTS(i / 3, i / 2, i / 2, k1 + 1, i - 1));
     SEGMENTS(SCCC_PASSED, f, k, i, n, cuts_from(0, 0, 15), cuts_from(i, 0, 15));
-    SEGMENTS(SCCC_PASSED, f, k, i, n, cuts_from(k, 0, 15), cuts_from(0, 0, 15));
-    SEGMENTS(SCCC_PASSED, f, k, i, n, cuts_from(k / 3, 0, 14), cuts_from(0, 1, 15));
-    SEGMENTS(SCCC_PASSED, f, k, i, n, cuts_from(k - 14, 1, 15), CUTS(0, 0, 1, 1, i, i));
+    SEGMENTS(SCCC_PASSED, f, k, i, n, cuts_from(k1, 0, 15), cuts_from(0, 0, 15));
+    SEGMENTS(SCCC_PASSED, f, k, i, n, cuts_from(k1 / 3, 0, 14), cuts_from(0, 1, 15));
+    SEGMENTS(SCCC_PASSED, f, k, i, n, cuts_from(k1 - 14, 1, 15), CUTS(0, 0, 1, 1, i, i));
     SEGMENTS(SCCC_TOO_MANY_CUTS, f, k, i, n, cuts_from(0, 0, 16), NO_CUTS);
     SEGMENTS(SCCC_TOO_MANY_CUTS, f, k, i, n, NO_CUTS, cuts_from(1, 1, 16));
-    SEGMENTS(SCCC_BAD_CUT, f, k, i, n, CUTS(k + 1), NO_CUTS);
+    SEGMENTS(SCCC_BAD_CUT, f, k, i, n, CUTS(k1 + 1), NO_CUTS);
     SEGMENTS(SCCC_BAD_CUT, f, k, i, n, NO_CUTS, CUTS(0, i + 1));
-    SEGMENTS(SCCC_BAD_CUT, f, k, i, n, CUTS(k, k - 1), CUTS(k + 1));
-    SEGMENTS(SCCC_BAD_CUT, f, k, i, n, CUTS(k), CUTS(i, i, i - 1));
+    SEGMENTS(SCCC_BAD_CUT, f, k, i, n, CUTS(k1, k1 - 1), CUTS(k1 + 1));
+    SEGMENTS(SCCC_BAD_CUT, f, k, i, n, CUTS(k1), CUTS(i, i, i - 1));
+    if (k > k1)
+        SEGMENTS(SCCC_BAD_CUT, f, k, i, n, CUTS(0, k), NO_CUTS);
 }
 
 /* Of several things that are wrong the first is answered: what comes after it fails too. */
@@ -603,6 +700,7 @@ static void frame(void)
     const size_t header = SCCC_FRAME_SLOTS - SCCC_FRAME_LABELS;
     uint64_t f;
     size_t j;
+    int bytes = 1;
     for (f = 1; f <= SCCC_FORMATS; f++) {
         uint8_t top = (uint8_t)((1u << sccc_format(f).m) - 1);
         int codes = 1, same = 1;
@@ -619,9 +717,12 @@ static void frame(void)
         CHECK(same);
         labels[SCCC_FRAME_LABELS - 1] = top;
         FRAME(SCCC_PASSED, f, SCCC_FRAME_LABELS, LENGTH(slots));
-        labels[SCCC_FRAME_LABELS - 1] = (uint8_t)(top + 1);
-        FRAME(SCCC_BAD_ELEMENT, f, SCCC_FRAME_LABELS, SCCC_FRAME_SLOTS);
-        FRAME(SCCC_BAD_ELEMENT, f, SCCC_FRAME_LABELS, 0);
+        CHECK(slots[SCCC_FRAME_SLOTS - 1] == top);
+        if (top < 255) { /* of eight bits every byte is a label */
+            labels[SCCC_FRAME_LABELS - 1] = (uint8_t)(top + 1);
+            FRAME(SCCC_BAD_ELEMENT, f, SCCC_FRAME_LABELS, SCCC_FRAME_SLOTS);
+            FRAME(SCCC_BAD_ELEMENT, f, SCCC_FRAME_LABELS, 0);
+        }
         FRAME(SCCC_BAD_LENGTH, f, SCCC_FRAME_LABELS - 1, SCCC_FRAME_SLOTS);
         FRAME(SCCC_BAD_LENGTH, f, SCCC_FRAME_LABELS + 1, SCCC_FRAME_SLOTS);
     }
@@ -634,8 +735,21 @@ static void frame(void)
     FRAME(SCCC_BAD_LENGTH, 1, 0, SCCC_FRAME_SLOTS);
     FRAME(SCCC_SHORT_OUTPUT, 1, SCCC_FRAME_LABELS, 0);
     FRAME(SCCC_SHORT_OUTPUT, 1, SCCC_FRAME_LABELS, SCCC_FRAME_SLOTS - 1);
-    labels[0] = 255;
+    labels[0] = 127;
     FRAME(SCCC_BAD_ELEMENT, 27, SCCC_FRAME_LABELS, SCCC_FRAME_SLOTS);
+    FRAME(SCCC_PASSED, 28, SCCC_FRAME_LABELS, SCCC_FRAME_SLOTS);
+    labels[0] = 128;
+    FRAME(SCCC_BAD_ELEMENT, 28, SCCC_FRAME_LABELS, SCCC_FRAME_SLOTS);
+    FRAME(SCCC_PASSED, 37, SCCC_FRAME_LABELS, SCCC_FRAME_SLOTS);
+    CHECK(slots[header] == 128);
+    memset(labels, 255, sizeof labels);
+    FRAME(SCCC_BAD_ELEMENT, 27, SCCC_FRAME_LABELS, SCCC_FRAME_SLOTS);
+    FRAME(SCCC_BAD_ELEMENT, 28, SCCC_FRAME_LABELS, SCCC_FRAME_SLOTS);
+    FRAME(SCCC_PASSED, 37, SCCC_FRAME_LABELS, SCCC_FRAME_SLOTS);
+    for (j = header; j < SCCC_FRAME_SLOTS; j++)
+        bytes = bytes && slots[j] == 255;
+    CHECK(bytes);
+    FRAME(SCCC_SHORT_OUTPUT, 37, SCCC_FRAME_LABELS, SCCC_FRAME_SLOTS - 1);
 }
 
 static int section_refused(uint64_t number, size_t labels_len, uint64_t place)
@@ -702,15 +816,17 @@ static void compare(void)
         others[8099] = 0;
         others[4000] = 1;
         COMPARE(f, SCCC_PASSED, 0, m + 1, 4000);
-        others[8099] = (uint8_t)(top + 1);
-        COMPARE_REFUSED(f, SCCC_SYMBOLS, SCCC_SYMBOLS, SCCC_BAD_ELEMENT);
-        labels[8099] = (uint8_t)(top + 1);
-        COMPARE_REFUSED(f, SCCC_SYMBOLS, SCCC_SYMBOLS, SCCC_BAD_ELEMENT);
+        if (top < 255) { /* of eight bits every byte is a label */
+            others[8099] = (uint8_t)(top + 1);
+            COMPARE_REFUSED(f, SCCC_SYMBOLS, SCCC_SYMBOLS, SCCC_BAD_ELEMENT);
+            labels[8099] = (uint8_t)(top + 1);
+            COMPARE_REFUSED(f, SCCC_SYMBOLS, SCCC_SYMBOLS, SCCC_BAD_ELEMENT);
+            others[8099] = 0;
+            COMPARE_REFUSED(f, SCCC_SYMBOLS, SCCC_SYMBOLS, SCCC_BAD_ELEMENT);
+        }
         COMPARE_REFUSED(f, SCCC_SYMBOLS - 1, SCCC_SYMBOLS, SCCC_BAD_LENGTH);
         COMPARE_REFUSED(f, SCCC_SYMBOLS, SCCC_SYMBOLS + 1, SCCC_BAD_LENGTH);
-        others[4000] = others[8099] = 0;
-        COMPARE_REFUSED(f, SCCC_SYMBOLS, SCCC_SYMBOLS, SCCC_BAD_ELEMENT);
-        labels[8099] = 0;
+        others[4000] = labels[8099] = 0;
         memset(others, 1, SCCC_SYMBOLS);
         COMPARE(f, SCCC_PASSED, 0, SCCC_SYMBOLS, 0);
         memset(others, top, SCCC_SYMBOLS);
@@ -718,6 +834,15 @@ static void compare(void)
         memset(others, 0, SCCC_SYMBOLS);
     }
     CHECK(sccc_compare(1, labels, SCCC_SYMBOLS, labels, SCCC_SYMBOLS).same == 1);
+    memset(others, 127, SCCC_SYMBOLS);
+    COMPARE(28, SCCC_PASSED, 0, 56700, 0);
+    others[8099] = 128;
+    COMPARE_REFUSED(28, SCCC_SYMBOLS, SCCC_SYMBOLS, SCCC_BAD_ELEMENT);
+    COMPARE(37, SCCC_PASSED, 0, 56694, 0);
+    memset(others, 255, SCCC_SYMBOLS);
+    COMPARE(37, SCCC_PASSED, 0, 64800, 0);
+    COMPARE_REFUSED(28, SCCC_SYMBOLS, SCCC_SYMBOLS, SCCC_BAD_ELEMENT);
+    memset(others, 0, SCCC_SYMBOLS);
     for (j = 0; j < LENGTH(not_formats); j++) {
         COMPARE_REFUSED(not_formats[j], SCCC_SYMBOLS, SCCC_SYMBOLS, SCCC_BAD_FORMAT);
         COMPARE_REFUSED(not_formats[j], 0, 0, SCCC_BAD_FORMAT);
@@ -1021,6 +1146,8 @@ static void slicer_change(void)
     }
     COMMAND(slicer(13, 223, 600000), 1, 104, 1168);
     COMMAND(slicer(1, 223, 600000), 27, 13, 32186);
+    COMMAND(slicer(27, 223, 600000), 37, 9, 55410);
+    COMMAND(slicer(37, 223, 60509), 28, 1, 17167);
 }
 
 /* The same bits under one format after another: what a look says is what comes of the command, the
@@ -1090,7 +1217,7 @@ static void threads(void)
     pthread_t thread[LENGTH(jobs)];
     size_t j, i;
     for (j = 0; j < LENGTH(jobs); j++) {
-        sccc_format_info r = sccc_format(jobs[j].f = 6 * j + 5);
+        sccc_format_info r = sccc_format(jobs[j].f = 10 * j + 7);
         for (i = 0; i < r.k; i++)
             jobs[j].block[i] = (uint8_t)(i * i / 7 % 2);
         CHECK(sccc_encode(jobs[j].f, jobs[j].block, r.k, jobs[j].work, r.i, jobs[j].once, r.n) ==
@@ -1130,17 +1257,19 @@ static void *call_each(void *argument)
     return NULL;
 }
 
-/* A thread on a stack that was filled beforehand shows how deep the calls went. */
-static void stack(void)
+/* A thread on a stack that was filled beforehand shows how deep the calls of a format went. */
+static void stack_of_format(uint64_t f)
 {
     static union {
         uint8_t bytes[256 * 1024];
         long double aligned;
     } memory;
-    static job j = {27, {0}, {0}, {0}, {0}, 0};
+    static job j;
     size_t untouched = 0;
     pthread_attr_t attributes;
     pthread_t thread;
+    memset(&j, 0, sizeof j);
+    j.f = f;
     memset(labels, 0, sizeof labels);
     fill(memory.bytes, sizeof memory.bytes);
     CHECK(pthread_attr_init(&attributes) == 0);
@@ -1151,6 +1280,13 @@ static void stack(void)
     while (untouched < sizeof memory.bytes && memory.bytes[untouched] == filling(untouched))
         untouched++;
     CHECK(sizeof memory.bytes - untouched < 32 * 1024);
+}
+
+/* The longest interleaver, and the longest block. */
+static void stack(void)
+{
+    stack_of_format(27);
+    stack_of_format(37);
 }
 
 int main(void)

@@ -23,7 +23,7 @@ sys.path.insert(0, os.path.dirname(MODULE))
 
 import sccc  # noqa: E402
 
-NOT_FORMATS = (0, 28, 256, 257, 2**32 + 1, 2**64 - 1, 2**64, 2**64 + 1, 2**128 + 1, -1)
+NOT_FORMATS = (0, 38, 256, 257, 2**32 + 1, 2**64 - 1, 2**64, 2**64 + 1, 2**128 + 1, -1)
 NOT_SMALL = (256, 2**32, 2**64 - 1, 2**64, -1, -(2**64))
 
 
@@ -61,9 +61,25 @@ def segment_states(bits, cuts):
     return tuple(ends), tuple(sccc.run(0, bits[:start]).state for start in [0, *cuts])
 
 
+def trellis_format(f):
+    """Document 004, 4.2: the format that encodes the first K1 bits of formats 28 to 37 alike."""
+    return 13 + (f - 28) % 5
+
+
+def is_bch_codeword(bits):
+    """Whether document 004's generator polynomial divides it. 4.3.1 prints its coefficients, that of x^0 first."""
+    printed = "1 1010 1010 1100 0011 1010 1011 1000 0100 0001 1000 1001 0100 0101"
+    generator, rest = int(printed.replace(" ", "")[::-1], 2), 0
+    for bit in bits:
+        rest = 2 * rest + bit
+        if rest >> 52:
+            rest ^= generator
+    return rest == 0
+
+
 def filled(length):
-    """Memory before a call: no element that a call would write there."""
-    return bytearray(64 + i % 191 for i in range(length))
+    """Memory before a call: no bit, no label below 128 and not 255, so no element that a call would write there."""
+    return bytearray(128 + i % 127 for i in range(length))
 
 
 class Case(unittest.TestCase):
@@ -81,8 +97,21 @@ class Numbers(Case):
         for row in rows:
             info = sccc.format_info(int(row["format"]))
             self.assertEqual(info[:5], tuple(int(row[name]) for name in ("m", "K", "I", "W", "N")))
-            self.assertEqual(info[6:], (int(row["K"]), 0, int(row["m"])))
             self.assertEqual((info.k1, info.k2, info.soft), info[6:])
+
+    def test_soft_share(self):
+        """Formats 1 to 27 send every bit through the trellises; of the others document 004's table 3-1 has K, K1 and K2."""
+        for f in range(1, 28):
+            info = sccc.format_info(f)
+            self.assertEqual((info.k1, info.k2, info.soft), (info.k, 0, info.m))
+        k1 = (19198, 21358, 23518, 25918, 28318)
+        k = (43342, 45502, 47662, 50062, 52462, 51390, 53550, 55710, 58110, 60510)
+        for f in range(28, sccc.FORMATS + 1):
+            info, trellis = sccc.format_info(f), sccc.format_info(trellis_format(f))
+            m = 7 if f <= 32 else 8
+            self.assertEqual((info.m, info.k, info.n), (m, k[f - 28], 8100 * m))
+            self.assertEqual((info.k1, info.k2, info.soft), (k1[(f - 28) % 5], 8048 * (m - 4), 4))
+            self.assertEqual((info.k1, *info[2:4], info.provisional), (trellis.k, *trellis[2:4], trellis.provisional))
 
     def test_provisional_formats(self):
         with open(os.path.join(ROOT, "data", "annex-c.csv"), newline="") as table:
@@ -199,6 +228,22 @@ class Blocks(Case):
             self.assertEqual(digest(codeword), int(row["codeword"]))
             self.assertEqual(digest(sccc.labels(f, codeword)), int(row["labels"]))
 
+    def test_two_stages(self):
+        """The codeword of the first K1 bits, and behind it each piece of 8,048 bits with its 52 check bits."""
+        for f in range(28, sccc.FORMATS + 1):
+            info = sccc.format_info(f)
+            block, work, trellis_work = seeded(f, info.k), bytearray(info.i), bytearray(info.i)
+            codeword = bytes(sccc.encode(f, block, work=work))
+            trellis_part = sccc.encode(trellis_format(f), block[: info.k1], work=trellis_work)
+            self.assertEqual((codeword[:32400], work), (trellis_part, trellis_work))
+            for j in range(info.m - 4):
+                coded = codeword[32400 + 8100 * j :][:8100]
+                self.assertEqual(coded[:8048], block[info.k1 + 8048 * j :][:8048])
+                self.assertTrue(is_bch_codeword(coded))
+            self.assertRefused(2, sccc.encode, f, block[: info.k1])
+            self.assertRefused(3, sccc.encode, f, block[:-1] + b"\2")
+            self.assertRefused(5, sccc.encode, f, block, out=bytearray(info.n - 1))
+
     def test_encode_writes_no_more_than_it_says(self):
         block = seeded(7, 5758)
         codeword, outer = sccc.encode(1, block), bytearray(8640)
@@ -233,21 +278,24 @@ class Blocks(Case):
         self.assertRefused(5, sccc.encode, 1, good, out=bytearray(16199))
 
     def test_segments(self):
-        for f in (1, 13, 27):
+        for f in (1, 13, 27, 28, 37):
             info = sccc.format_info(f)
             block, work = seeded(f, info.k), bytearray(info.i)
+            soft = block[: info.k1]
             codeword = sccc.encode(f, block, work=work)
             read = bytes(work[sccc.interleave(f, i)] for i in range(info.i))
             for outer, inner in (
                 ((), ()),
-                ([info.k * j // 16 for j in range(1, 16)], [info.i * j // 12 for j in range(1, 12)]),
+                ([info.k1 * j // 16 for j in range(1, 16)], [info.i * j // 12 for j in range(1, 12)]),
                 ([0] * 15, [info.i] * 15),
-                ([1, 1, info.k // 2, info.k], range(15)),
+                ([1, 1, info.k1 // 2, info.k1], range(15)),
             ):
                 mine = bytearray(info.i)
                 found = sccc.encode_segments(f, block, outer, inner, work=mine)
-                self.assertEqual(found, (codeword, segment_states(block, outer), segment_states(read, inner)))
+                self.assertEqual(found, (codeword, segment_states(soft, outer), segment_states(read, inner)))
                 self.assertEqual(mine, work)
+            self.assertRefused(13, sccc.encode_segments, f, block, [info.k1 + 1])
+            self.assertRefused(13, sccc.encode_segments, f, block, [], [info.i + 1])
 
     def test_segments_of_a_one(self):
         """A one and then zeros: the powers of A, by equation 6-7."""
@@ -314,6 +362,8 @@ class Blocks(Case):
             out = filled(sccc.SYMBOLS + 3)
             self.assertEqual(sccc.labels(f, codeword, out=out), bytes([2 ** (info.m - 1) - 1]) * sccc.SYMBOLS)
             self.assertEqual(out[sccc.SYMBOLS :], filled(len(out))[sccc.SYMBOLS :])
+            out = filled(sccc.SYMBOLS)
+            self.assertEqual(sccc.labels(f, b"\1" * info.n, out=out), bytes([2**info.m - 1]) * sccc.SYMBOLS)
             for number, given, room in (
                 (2, codeword[1:], 0),
                 (2, codeword + b"\0", 0),
@@ -363,6 +413,28 @@ class Frames(Case):
             self.assertEqual(out, array("H", [999]) * room)
         self.assertRefused(3, sccc.frame, 13, bad)
 
+    def test_frames_of_seven_and_eight_bits(self):
+        """128 is no label of seven bits; of eight bits every byte is one."""
+        labels = bytes(i % 256 for i in range(sccc.FRAME_LABELS))
+        slots = sccc.frame(37, labels)
+        self.assertEqual(slots[320:].tolist(), list(labels))
+        self.assertEqual(set(slots[:320].tolist()), {256, 257})
+        self.assertEqual(sccc.frame(28, b"\177" * sccc.FRAME_LABELS)[-1], 127)
+        self.assertEqual(sccc.frame(37, b"\377" * sccc.FRAME_LABELS)[-1], 255)
+        for label in (128, 255):
+            self.assertRefused(3, sccc.frame, 28, bytes(sccc.FRAME_LABELS - 1) + bytes([label]))
+
+    def test_descriptors_are_the_papers(self):
+        """Document 004, 5.3.3, pilots off: seven rows, each bit twice, scrambled. The row 0000FFFF is garbled in our copy."""
+        rows = (0x90AC2DDD, 0x55555555, 0x33333333, 0x0F0F0F0F, 0x00FF00FF, 0x0000FFFF, 0xFFFFFFFF)
+        for f in range(1, sccc.FORMATS + 1):
+            coded = 0
+            for bit, row in zip(f"{f:06b}0", rows):
+                coded ^= row * int(bit)
+            twice = int("".join(2 * bit for bit in f"{coded:032b}"), 2)
+            descriptor = [256 + int(bit) for bit in f"{twice ^ 0x719D83C953422DFA:064b}"]
+            self.assertEqual(sccc.frame(f, bytes(sccc.FRAME_LABELS))[256:320].tolist(), descriptor)
+
     def test_section_is_the_callers_own_memory(self):
         labels = bytearray(sccc.FRAME_LABELS)
         for place in range(sccc.SECTIONS):
@@ -394,6 +466,10 @@ class Frames(Case):
         self.assertEqual(sccc.compare(13, bytes(8100), b"\1" * 8100), (False, 8100, 0))
         self.assertEqual(sccc.compare(13, b"\5" * 8100, b"\12" * 8100), (False, 4 * 8100, 0))
         self.assertEqual(sccc.compare(27, b"\77" * 8100, bytes(8100)), (False, 6 * 8100, 0))
+        self.assertEqual(sccc.compare(28, b"\177" * 8100, bytes(8100)), (False, 7 * 8100, 0))
+        self.assertEqual(sccc.compare(37, b"\377" * 8100, bytes(8100)), (False, 64800, 0))
+        self.assertRefused(3, sccc.compare, 28, b"\200" * 8100, bytes(8100))
+        self.assertRefused(3, sccc.compare, 28, bytes(8100), b"\377" * 8100)
         b[8099] = 16
         self.assertRefused(3, sccc.compare, 13, a, b)
         self.assertRefused(3, sccc.compare, 13, b, a)
@@ -421,7 +497,7 @@ class Slicers(Case):
             k = sccc.format_info(f).k
             slicer = sccc.Slicer(f)
             self.assertEqual(self.state(slicer)[:3], (f, 0, 0))
-            frames = [octets(f + n, 1115) for n in range(6)]
+            frames = [octets(f + n, 1115) for n in range(7)]
             handed = []
             for frame in frames:
                 slicer.push(frame)
@@ -503,6 +579,7 @@ class Slicers(Case):
         slicer.push(bytes(65536))
         self.assertEqual(slicer.look(1), (91, 524320 - 91 * 5758))
         self.assertEqual(slicer.look(27), (12, 184))
+        self.assertEqual(slicer.look(37), (8, 40240))
         self.assertEqual((slicer.look(27).blocks, slicer.look(27).bits), (12, 184))
 
     def test_lengths_of_frames(self):

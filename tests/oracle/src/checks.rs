@@ -9,7 +9,7 @@ use crate::tables::{self, SECTION};
 use crate::transfer::{LEAST_OCTETS, MOST_OCTETS};
 
 pub const PASSED: u64 = 0;
-/// The format is not 1 to 27.
+/// The format is not 1 to 37.
 pub const FORMAT: u64 = 1;
 /// An input list is not exactly as long as the call takes, or more bits are
 /// said to wait than a slicer's memory holds.
@@ -78,7 +78,7 @@ pub fn encode_segments(
     };
     let number = encode(format, block, work_len, out_len);
     let few = few_cuts(outer) && few_cuts(inner);
-    let inside = cuts_inside(outer, f.K) && cuts_inside(inner, f.I);
+    let inside = cuts_inside(outer, f.K1) && cuts_inside(inner, f.I);
     first_failed(&[
         (number, number == PASSED),
         (CUT_COUNT, few),
@@ -245,10 +245,10 @@ mod tests {
     #[test]
     fn format_comes_first() {
         assert_eq!(encode(0, &[], 0, 0), FORMAT);
-        assert_eq!(encode(28, &[0; K], I, N), FORMAT);
+        assert_eq!(encode(38, &[0; K], I, N), FORMAT);
         assert_eq!(encode(257, &[0; K], I, N), FORMAT);
         assert_eq!(labels(0, &[2], 0), FORMAT);
-        assert_eq!(frame(28, &[64], 0), FORMAT);
+        assert_eq!(frame(38, &[64], 0), FORMAT);
         assert_eq!(compare(0, &[], &[9]), FORMAT);
         assert_eq!(interleave(0, u64::MAX), FORMAT);
     }
@@ -310,6 +310,30 @@ mod tests {
         assert_eq!(asked([&[], &[]]), PASSED);
     }
 
+    /// In format 37 the outer trellis reads 28,318 of the 60,510 bits.
+    #[test]
+    fn outer_cuts_end_at_k1() {
+        let block = vec![1; 60_510];
+        let asked = |cuts: [&[u16]; 2]| encode_segments(37, &block, 42_480, 64_800, cuts);
+        assert_eq!(asked([&[28_318], &[42_480]]), PASSED);
+        assert_eq!(asked([&[28_319], &[]]), CUT_PLACE);
+        assert_eq!(asked([&[60_510], &[]]), CUT_PLACE);
+        assert_eq!(asked([&[], &[42_481]]), CUT_PLACE);
+        let number = encode_segments(37, &block[1..], 42_480, 64_800, [&[28_319], &[]]);
+        assert_eq!(number, LENGTH);
+    }
+
+    /// A bit that no trellis reads is asked about too.
+    #[test]
+    fn a_two_in_a_piece_is_no_bit() {
+        let mut block = vec![0; 60_510];
+        assert_eq!(encode(37, &block, 42_480, 64_800), PASSED);
+        assert_eq!(encode(37, &block, 42_480, 64_799), OUTPUT);
+        block[60_509] = 2;
+        assert_eq!(encode(37, &block, 42_480, 64_800), ELEMENT);
+        assert_eq!(encode(37, &block[..28_318], 42_480, 64_800), LENGTH);
+    }
+
     #[test]
     fn labels_asks_1_2_3_5() {
         assert_eq!(labels(1, &[0; N - 1], SECTION), LENGTH);
@@ -327,6 +351,19 @@ mod tests {
         assert_eq!(frame(1, &threes, FRAME_SLOTS - 1), OUTPUT);
         assert_eq!(frame(1, &threes, FRAME_SLOTS), PASSED);
         assert_eq!(frame(7, &fours, FRAME_SLOTS), PASSED);
+    }
+
+    /// Seven bits end at 127; of eight bits every byte is a label.
+    #[test]
+    fn labels_of_seven_and_eight_bits() {
+        for (label, of_seven) in [(127, PASSED), (128, ELEMENT), (255, ELEMENT)] {
+            let all = vec![label; FRAME_LABELS];
+            assert_eq!(frame(28, &all, FRAME_SLOTS), of_seven);
+            assert_eq!(frame(37, &all, FRAME_SLOTS), PASSED);
+            let few = &all[..SECTION];
+            assert_eq!(compare(28, few, few), of_seven);
+            assert_eq!(compare(37, few, few), PASSED);
+        }
     }
 
     #[test]
@@ -394,7 +431,7 @@ mod tests {
             push(&slicer(format, length, waiting), &frame[..octets], memory)
         };
         let k = K as u64;
-        for format in [0, 28, 257, 1 << 32 | 1] {
+        for format in [0, 38, 257, 1 << 32 | 1] {
             assert_eq!(asked(format, 1, k, 222, &twos[1..]), FORMAT);
         }
         for octets in [0, LEAST_OCTETS - 1, MOST_OCTETS + 1] {
@@ -440,7 +477,7 @@ mod tests {
     #[test]
     fn change_asks_1_of_both_formats_and_2() {
         let asked = |old, waiting, new| change(&slicer(old, 1, waiting), new);
-        for format in [0, 28, 257, 1 << 32 | 1, u64::MAX] {
+        for format in [0, 38, 257, 1 << 32 | 1, u64::MAX] {
             assert_eq!(asked(format, 0, 1), FORMAT);
             assert_eq!(asked(1, 0, format), FORMAT);
             assert_eq!(asked(format, u64::MAX, 1), FORMAT);

@@ -66,6 +66,13 @@ mod tests {
     }
 
     #[test]
+    fn a_256apsk_label_can_hold_eight() {
+        assert_eq!(compare(8, &[255; 8100], &[0; 8100]), differ(64_800, 0));
+        assert_eq!(compare(7, &[127, 9], &[0, 9]), differ(7, 0));
+        assert_eq!(compare(8, &[3, 128], &[3, 127]), differ(8, 1));
+    }
+
+    #[test]
     fn labels_differ_in_as_many_bits_as_their_codewords() {
         for f in formats() {
             let [a, b] = [1, 2].map(|seed| seeded_block(seed, f.N));

@@ -1,16 +1,24 @@
-//! Sections 4.2 to 4.6: from an information block to labels, one whole vector
-//! for each stage of figure 4-1.
+//! Sections 4.2 to 4.6, and section 4 of document 004: from an information block
+//! to labels, one whole vector for each stage of figure 4-1.
 
 use crate::annex_c::{Interleaver, UpperPosition};
+use crate::bch;
 use crate::tables::{self, Format, SECTION};
 use crate::trellis::{self, Run};
 
 /// 4.4.1: the puncturing period of the upper register in outer coded bits.
 pub const PERIOD: usize = 300;
 
-/// 4.2: the outer encoder, over the K bits of a block and two terminating bits.
-pub fn outer(block: &[u8]) -> Run {
-    trellis::terminated_run(block)
+/// Document 004, 4.1.1.1: the first K1 bits of a block go through the trellises,
+/// the K2 others to the BCH encoder.
+pub fn apportioned<'a>(format: &Format, block: &'a [u8]) -> (&'a [u8], &'a [u8]) {
+    assert_eq!(block.len(), format.K);
+    block.split_at(format.K1)
+}
+
+/// 4.2: the outer encoder, over the K1 bits and two terminating bits.
+pub fn outer(bits: &[u8]) -> Run {
+    trellis::terminated_run(bits)
 }
 
 /// 4.2, figure 4-3: all systematic bits and every second parity bit. For each
@@ -87,11 +95,16 @@ pub fn select(register: &[u8], kept: &[bool]) -> Vec<u8> {
 }
 
 /// 4.5, third paragraph: the transmitted systematic bits, then the transmitted
-/// parity bits.
-pub fn codeword(format: &Format, interleaver: &Interleaver, registers: &Run) -> Vec<u8> {
+/// parity bits. In formats 1 to 27 this is the codeword.
+pub fn trellis_part(format: &Format, interleaver: &Interleaver, registers: &Run) -> Vec<u8> {
     let upper = select(&registers.systematic, &upper_kept(format, interleaver));
     let lower = select(&registers.parity, &lower_kept(format));
     [upper, lower].concat()
+}
+
+/// Document 004, 4.3: the BCH codewords of the pieces, one behind the other.
+pub fn bch_part(bits: &[u8]) -> Vec<u8> {
+    bits.chunks(bch::PIECE).flat_map(bch::codeword).collect()
 }
 
 /// What one encoding gives.
@@ -102,19 +115,20 @@ pub struct Encoded {
     pub codeword: Vec<u8>,
 }
 
-/// Figure 4-1: the whole encoder, for a block of K bits.
+/// Figure 4-1, here and in document 004: the whole encoder, for a block of K bits.
 pub fn encode(format: &Format, interleaver: &Interleaver, block: &[u8]) -> Encoded {
-    let workspace = outer_kept(&outer(block));
+    let (soft, hard) = apportioned(format, block);
+    let workspace = outer_kept(&outer(soft));
     let registers = inner(&interleave(interleaver, &workspace));
-    let codeword = codeword(format, interleaver, &registers);
+    let trellis_part = trellis_part(format, interleaver, &registers);
     Encoded {
         workspace,
-        codeword,
+        codeword: [trellis_part, bch_part(hard)].concat(),
     }
 }
 
-/// 4.5 and 4.6: a memory of 8100 rows and m columns, written column by column
-/// and read row by row, the most significant bit first.
+/// 4.5 and 4.6, and document 004, 4.4: a memory of 8100 rows and m columns,
+/// written column by column and read row by row, the most significant bit first.
 pub fn labels(format: &Format, codeword: &[u8]) -> Vec<u8> {
     let columns: Vec<&[u8]> = codeword.chunks(SECTION).collect();
     assert_eq!(columns.len(), format.m);
@@ -197,5 +211,44 @@ mod tests {
         assert_eq!(labels[..2], [4, 1]);
         assert_eq!(labels[SECTION - 1], 2);
         assert_eq!(labels.iter().filter(|label| **label > 0).count(), 3);
+    }
+
+    /// Document 004, 4.4: the trellises fill the first four columns, and the pieces
+    /// those behind them.
+    #[test]
+    fn the_first_four_columns_are_the_trellises() {
+        let format = tables::format(37).unwrap();
+        let mut codeword = vec![0; format.N];
+        codeword[..format.N1()].fill(1);
+        assert_eq!(labels(&format, &codeword), [0b1111_0000; SECTION]);
+        codeword.fill(1);
+        assert_eq!(labels(&format, &codeword), [255; SECTION]);
+        codeword[7 * SECTION] = 0;
+        assert_eq!(labels(&format, &codeword)[..2], [254, 255]);
+    }
+
+    /// Two pieces with a single one each, at the end and at the front of the second.
+    #[test]
+    fn pieces_are_coded_apart() {
+        let mut bits = vec![0; 2 * bch::PIECE];
+        bits[bch::PIECE - 1] = 1;
+        bits[bch::PIECE] = 1;
+        let coded = bch_part(&bits);
+        assert_eq!(coded.len(), 2 * SECTION);
+        assert_eq!(coded[..SECTION], bch::codeword(&bits[..bch::PIECE]));
+        assert_eq!(coded[SECTION..], bch::codeword(&bits[bch::PIECE..]));
+        assert_eq!(bch_part(&[]), []);
+    }
+
+    #[test]
+    fn a_block_is_cut_behind_k1_bits() {
+        let format = tables::format(28).unwrap();
+        let mut block = vec![0; format.K];
+        block[19_198..].fill(1);
+        let (soft, hard) = apportioned(&format, &block);
+        assert_eq!((soft, hard), (&[0; 19_198][..], &[1; 24_144][..]));
+        let format = tables::format(27).unwrap();
+        let block = vec![0; format.K];
+        assert_eq!(apportioned(&format, &block), (&block[..], &[][..]));
     }
 }

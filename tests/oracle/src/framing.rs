@@ -1,4 +1,5 @@
-//! Section 5: frame marker, frame descriptor, frame and codeword section.
+//! Section 5, and 5.3.3 of document 004: frame marker, frame descriptor, frame and
+//! codeword section.
 
 use crate::tables::{Format, SECTION};
 
@@ -65,8 +66,34 @@ pub fn marker() -> Vec<u8> {
     )
 }
 
-/// Figure 5-4: the generator matrix of the (32,6) code.
-const G: [&str; 6] = [
+/// Document 004, 5.3.3: the rows of the (32,7) code's generator matrix as printed,
+/// but for the sixth: the copy has nine digits there, 0x000FFF0FF, and figure 5-4
+/// the row.
+pub const ROWS: [u32; 7] = [
+    0x90AC_2DDD,
+    0x5555_5555,
+    0x3333_3333,
+    0x0F0F_0F0F,
+    0x00FF_00FF,
+    0x0000_FFFF,
+    0xFFFF_FFFF,
+];
+
+/// Document 004, 5.3.3: ACM format, then b0 to b5, as printed for 28 to 37.
+pub const PRINTED_B: &str = "\
+28 0 1 1 1 0 0
+29 0 1 1 1 0 1
+30 0 1 1 1 1 0
+31 0 1 1 1 1 1
+32 1 0 0 0 0 0
+33 1 0 0 0 0 1
+34 1 0 0 0 1 0
+35 1 0 0 0 1 1
+36 1 0 0 1 0 0
+37 1 0 0 1 0 1";
+
+/// Figure 5-4: the generator matrix of the (32,6) code, for formats 1 to 27.
+pub const G: [&str; 6] = [
     "01010101010101010101010101010101",
     "00110011001100110011001100110011",
     "00001111000011110000111100001111",
@@ -88,18 +115,46 @@ pub fn bits_64(number: u64) -> Vec<u8> {
     digits(&format!("{number:064b}"))
 }
 
-/// 5.2.1: the frame descriptor of a format; pilots is b6, 1 for on and 0 for
-/// off. b7 is 0, so each coded bit is repeated as it is.
-pub fn descriptor(format: &Format, pilots: u8) -> Vec<u8> {
-    let b = digits(&format!("{:05b}{pilots}", format.number));
+/// A row of the matrix as bits.
+pub fn row_bits(row: u32) -> Vec<u8> {
+    digits(&format!("{row:032b}"))
+}
+
+/// The sum of the rows whose bit is 1.
+fn coded(b: &[u8], rows: &[Vec<u8>]) -> Vec<u8> {
+    assert_eq!(b.len(), rows.len());
     let mut y = vec![0; DESCRIPTOR / 2];
-    for (bit, row) in b.iter().zip(G) {
+    for (bit, row) in b.iter().zip(rows) {
         if *bit == 1 {
-            y = sum(&y, &digits(row));
+            y = sum(&y, row);
         }
     }
+    y
+}
+
+/// b7 is 0, so each coded bit is repeated as it is; then all are scrambled.
+fn repeated_and_scrambled(y: &[u8]) -> Vec<u8> {
     let repeated: Vec<u8> = y.iter().flat_map(|&bit| [bit, bit]).collect();
     sum(&repeated, &bits_64(SCRAMBLING))
+}
+
+/// Document 004, table 5-4: b0 to b6, of which six are the format's number and
+/// the last is 1 for pilots on and 0 for off.
+pub fn information_bits(format: &Format, pilots: u8) -> Vec<u8> {
+    digits(&format!("{:06b}{pilots}", format.number))
+}
+
+/// Document 004, 5.3.3: the frame descriptor of a format.
+pub fn descriptor(format: &Format, pilots: u8) -> Vec<u8> {
+    let b = information_bits(format, pilots);
+    repeated_and_scrambled(&coded(&b, &ROWS.map(row_bits)))
+}
+
+/// 5.2.1: the frame descriptor of a format from 1 to 27, with a bit less for its
+/// number and a row less.
+pub fn descriptor_of_six_rows(format: &Format, pilots: u8) -> Vec<u8> {
+    let b = digits(&format!("{:05b}{pilots}", format.number));
+    repeated_and_scrambled(&coded(&b, &G.map(digits)))
 }
 
 /// Figure 5-1, pilots off: header bits, then the labels of sixteen codeword
@@ -141,12 +196,41 @@ mod tests {
         assert!(slots[320..].iter().all(|&slot| slot == 63));
     }
 
-    /// b6 and row 6 of G: pilots turn every bit over.
+    /// b6 and the last row: pilots turn every bit over.
     #[test]
     fn pilots_turn_the_descriptor_over() {
-        let format = tables::format(13).unwrap();
-        let off = descriptor(&format, 0);
-        let on = descriptor(&format, 1);
-        assert!(off.iter().zip(&on).all(|(off, on)| off + on == 1));
+        for format in [13, 37].map(|number| tables::format(number).unwrap()) {
+            let off = descriptor(&format, 0);
+            let on = descriptor(&format, 1);
+            assert!(off.iter().zip(&on).all(|(off, on)| off + on == 1));
+        }
+    }
+
+    #[test]
+    fn formats_1_to_27_keep_the_descriptor_of_six_rows() {
+        for format in &tables::formats()[..27] {
+            for pilots in [0, 1] {
+                let six = descriptor_of_six_rows(format, pilots);
+                assert_eq!(descriptor(format, pilots), six, "{}", format.number);
+            }
+        }
+    }
+
+    /// Format 32 alone has b0 and nothing else: the first row twice, scrambled.
+    #[test]
+    fn format_32_is_the_first_row() {
+        let format = tables::format(32).unwrap();
+        let unscrambled = sum(&descriptor(&format, 0), &bits_64(SCRAMBLING));
+        let row = digits("10010000101011000010110111011101");
+        let twice: Vec<u8> = row.iter().flat_map(|&bit| [bit, bit]).collect();
+        assert_eq!(unscrambled, twice);
+    }
+
+    #[test]
+    fn a_label_slot_holds_up_to_255() {
+        let format = tables::format(37).unwrap();
+        let slots = frame(&format, &vec![255; FRAME_LABELS]);
+        assert!(slots[..320].iter().all(|&slot| slot == 256 || slot == 257));
+        assert!(slots[320..].iter().all(|&slot| slot == 255));
     }
 }

@@ -22,8 +22,8 @@ const USAGE: &str = "usage: oracle [--annex-c PATH] COMMAND
   self-check           the oracle against outside numbers, one line each
   formats              the ACM formats, as document 01 lists them
   vectors              digests of six encoded blocks for each format
-  frames               digests of one frame for five formats
-  streams              the same of a stream of transfer frames
+  frames               digests of one frame for each format
+  streams              the same of a stream of transfer frames, seven formats
   changes              the same after a frame of format 13
   looks                what a look says at that change
   runs                 where a run over a block is halfway, and its digest
@@ -33,8 +33,8 @@ const USAGE: &str = "usage: oracle [--annex-c PATH] COMMAND
   wrong-rows           how often annex D's rule misses a wrong row of annex C
   puncturing-search    4.4.2's search, for each order of the kept outer bits";
 
-/// Formats with a frame in the listing: one for each modulation.
-const FRAME_FORMATS: [u64; 5] = [1, 7, 13, 18, 27];
+/// The formats of the listings that do not have all: one for each modulation.
+const OF_EACH_MODULATION: [u64; 7] = [1, 7, 13, 18, 27, 28, 37];
 
 /// Section 6's n_enc for encoders of 250 MHz.
 const ENCODERS: usize = 12;
@@ -68,12 +68,12 @@ fn command(arguments: &[String]) -> Result<(String, ExitCode), String> {
         }
         ["formats"] => tables::listing(),
         ["vectors"] => vectors(&annex_c()?),
-        ["frames"] => frames(&annex_c()?, frame_blocks)?,
-        ["streams"] => frames(&annex_c()?, stream_blocks)?,
-        ["changes"] => frames(&annex_c()?, changed_blocks)?,
+        ["frames"] => frames(&annex_c()?, tables::formats(), frame_blocks),
+        ["streams"] => frames(&annex_c()?, &of_each_modulation(), stream_blocks),
+        ["changes"] => frames(&annex_c()?, &of_each_modulation(), changed_blocks),
         ["looks"] => looks(),
-        ["runs"] => runs()?,
-        ["segments"] => parallel(&annex_c()?)?,
+        ["runs"] => runs(),
+        ["segments"] => parallel(&annex_c()?),
         ["ones", format, pattern] => ones(&annex_c()?, format, pattern)?,
         ["annex-d"] => annex_d::listing(&annex_c()?),
         ["wrong-rows"] => wrong_rows::listing(&annex_c()?),
@@ -81,6 +81,12 @@ fn command(arguments: &[String]) -> Result<(String, ExitCode), String> {
         _ => return Err(USAGE.into()),
     };
     Ok((text, ExitCode::SUCCESS))
+}
+
+/// One format for each modulation.
+fn of_each_modulation() -> Vec<Format> {
+    let format = |number| tables::format(number).expect("a format");
+    OF_EACH_MODULATION.map(format).to_vec()
 }
 
 /// Digests of workspace, codeword and labels, six blocks for each format.
@@ -101,24 +107,24 @@ fn vectors(annex_c: &AnnexC) -> String {
     text
 }
 
-/// Digests of marker, descriptor, labels and slots of one frame for each of
-/// five formats, from its sixteen blocks.
-fn frames(annex_c: &AnnexC, blocks: fn(&Format) -> Vec<Vec<u8>>) -> Result<String, String> {
+/// Digests of marker, descriptor, labels and slots of one frame for each of some
+/// formats, from its sixteen blocks.
+fn frames(annex_c: &AnnexC, formats: &[Format], blocks: fn(&Format) -> Vec<Vec<u8>>) -> String {
     let mut text = String::from("format,marker,descriptor,labels,frame\n");
-    for number in FRAME_FORMATS {
-        let f = tables::format(number).ok_or("no such format")?;
-        let all_labels: Vec<u8> = (blocks(&f).iter())
-            .flat_map(|block| labels(&f, &encode(&f, annex_c.of_size(f.I), block).codeword))
+    for f in formats {
+        let all_labels: Vec<u8> = (blocks(f).iter())
+            .flat_map(|block| labels(f, &encode(f, annex_c.of_size(f.I), block).codeword))
             .collect();
         text.push_str(&format!(
-            "{number},{},{},{},{}\n",
+            "{},{},{},{},{}\n",
+            f.number,
             digest(&framing::marker()),
-            digest(&framing::descriptor(&f, 0)),
+            digest(&framing::descriptor(f, 0)),
             digest(&all_labels),
-            digest(&framing::frame(&f, &all_labels)),
+            digest(&framing::frame(f, &all_labels)),
         ));
     }
-    Ok(text)
+    text
 }
 
 /// The blocks that the bits which wait at the change yield, and the bits that
@@ -129,7 +135,7 @@ fn looks() -> String {
         waiting: waiting_at_change(),
         ..Slicer::new(13)
     };
-    for number in FRAME_FORMATS {
+    for number in OF_EACH_MODULATION {
         let ahead = slicer::look(slicer, number);
         text.push_str(&format!("{number},{},{}\n", ahead.blocks, ahead.bits));
     }
@@ -138,30 +144,29 @@ fn looks() -> String {
 
 /// A run from 00 over the first block of a format's frame: half its bits, the
 /// state after those, and the digest of the whole.
-fn runs() -> Result<String, String> {
+fn runs() -> String {
     let mut text = String::from("format,bits,state,run\n");
-    for number in FRAME_FORMATS {
-        let f = tables::format(number).ok_or("no such format")?;
+    for f in of_each_modulation() {
         let block = &frame_blocks(&f)[0];
         let half = f.K / 2;
         text.push_str(&format!(
-            "{number},{half},{},{}\n",
+            "{},{half},{},{}\n",
+            f.number,
             trellis::state_number(trellis::states(trellis::ZERO, block)[half]),
             digest(&trellis::run(trellis::ZERO, block).written()),
         ));
     }
-    Ok(text)
+    text
 }
 
 /// The first block of a format's frame by encoders in parallel: where each
 /// segment begins, and its states, of the outer trellis and of the inner.
-fn parallel(annex_c: &AnnexC) -> Result<String, String> {
+fn parallel(annex_c: &AnnexC) -> String {
     let mut text = String::from(
         "format,segment,outer,outer_ended,outer_started,inner,inner_ended,inner_started\n",
     );
-    for number in FRAME_FORMATS {
-        let f = tables::format(number).ok_or("no such format")?;
-        let inputs = segments::inputs(annex_c.of_size(f.I), &frame_blocks(&f)[0]);
+    for f in of_each_modulation() {
+        let inputs = segments::inputs(&f, annex_c.of_size(f.I), &frame_blocks(&f)[0]);
         let columns = inputs.map(|u| {
             let cuts = segments::equal_cuts(u.len(), ENCODERS);
             (
@@ -170,7 +175,7 @@ fn parallel(annex_c: &AnnexC) -> Result<String, String> {
             )
         });
         for j in 0..ENCODERS {
-            text.push_str(&format!("{number},{j}"));
+            text.push_str(&format!("{},{j}", f.number));
             for (bounds, states) in &columns {
                 let [ended, started] =
                     [states.ended[j], states.started[j]].map(trellis::state_number);
@@ -179,13 +184,13 @@ fn parallel(annex_c: &AnnexC) -> Result<String, String> {
             text.push('\n');
         }
     }
-    Ok(text)
+    text
 }
 
 /// The number of ones in the codeword of a pattern's block.
 fn ones(annex_c: &AnnexC, format: &str, pattern: &str) -> Result<String, String> {
     let number = format.parse().map_err(|_| "the format is not a number")?;
-    let f = tables::format(number).ok_or("the format is not 1 to 27")?;
+    let f = tables::format(number).ok_or("the format is not 1 to 37")?;
     let pattern = pattern.parse().map_err(|_| "the pattern is not a number")?;
     let block = pattern_block(pattern, f.K).ok_or("the pattern is not 0, 1 or 2")?;
     let codeword = encode(&f, annex_c.of_size(f.I), &block).codeword;

@@ -3,6 +3,7 @@
 
 use crate::annex_c::Interleaver;
 use crate::encoder;
+use crate::tables::Format;
 use crate::trellis::{self, State, ZERO};
 
 /// Cuts of a list, at most.
@@ -51,16 +52,18 @@ pub fn propagated(bounds: &[[usize; 2]], ended: &[State]) -> Vec<State> {
     x
 }
 
-/// What the two trellises read while a block is encoded: the block, and the
-/// interleaved bits.
-pub fn inputs(interleaver: &Interleaver, block: &[u8]) -> [Vec<u8>; 2] {
-    let kept = encoder::outer_kept(&encoder::outer(block));
-    [block.to_vec(), encoder::interleave(interleaver, &kept)]
+/// What the two trellises read while a block is encoded: its first K1 bits, and
+/// the interleaved bits.
+pub fn inputs(format: &Format, interleaver: &Interleaver, block: &[u8]) -> [Vec<u8>; 2] {
+    let (soft, _) = encoder::apportioned(format, block);
+    let kept = encoder::outer_kept(&encoder::outer(soft));
+    [soft.to_vec(), encoder::interleave(interleaver, &kept)]
 }
 
 #[cfg(test)]
 mod tests {
     use super::*;
+    use crate::{annex_c, tables};
 
     /// A one, and then zeros: A^n B for each n, by equation 6-7.
     #[test]
@@ -76,6 +79,18 @@ mod tests {
         let found = states(&[1, 1], &[0, 1, 1, 2]);
         assert_eq!(found.ended, [ZERO, [0, 1], ZERO, [0, 1], ZERO]);
         assert_eq!(found.started, [ZERO, ZERO, [0, 1], [0, 1], [1, 0]]);
+    }
+
+    /// Ones in the pieces alone: no trellis reads any.
+    #[test]
+    fn the_outer_trellis_reads_k1_bits() {
+        let annex_c = annex_c::parse(include_str!("../../../data/annex-c.csv")).unwrap();
+        let format = tables::format(37).unwrap();
+        let mut block = vec![0; format.K];
+        block[28_318..].fill(1);
+        let [outer, inner] = inputs(&format, annex_c.of_size(format.I), &block);
+        assert_eq!(outer, [0; 28_318]);
+        assert_eq!(inner, [0; 42_480]);
     }
 
     #[test]

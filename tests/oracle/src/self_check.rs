@@ -1,6 +1,8 @@
 //! The oracle held against numbers from outside: what the standard and document
 //! 01 print, and what they say must hold.
 
+mod extension;
+
 use crate::annex_c::{AnnexC, Interleaver};
 use crate::annex_d;
 use crate::digest::{seeded_block, vector_blocks};
@@ -10,6 +12,9 @@ use crate::segments::{self, equal_cuts, MOST_CUTS};
 use crate::tables::{self, Format, M, SECTION};
 use crate::transfer;
 use crate::trellis::{self, run, terminating_bits, ZERO};
+
+/// The formats of table 4-3; those of document 004 follow.
+const OLD_FORMATS: usize = 27;
 
 /// One line for each check.
 #[derive(Default)]
@@ -34,14 +39,25 @@ impl Report {
         self.line(what, &failing);
     }
 
-    /// A check made of every format; a failure names the formats.
-    fn each_format(&mut self, what: &str, holds: impl Fn(&Format) -> bool) {
-        let failing: Vec<String> = tables::formats()
+    /// A check made of some formats; a failure names the formats.
+    fn formats(&mut self, what: &str, formats: &[Format], holds: impl Fn(&Format) -> bool) {
+        let failing: Vec<String> = formats
             .iter()
             .filter(|f| !holds(f))
             .map(|f| format!("format {}", f.number))
             .collect();
-        self.line(&format!("{what}, each of 27 formats"), &failing);
+        let what = format!("{what}, each of {} formats", formats.len());
+        self.line(&what, &failing);
+    }
+
+    /// A check made of every format.
+    fn each_format(&mut self, what: &str, holds: impl Fn(&Format) -> bool) {
+        self.formats(what, tables::formats(), holds);
+    }
+
+    /// A check made of the formats of document 004.
+    fn each_new_format(&mut self, what: &str, holds: impl Fn(&Format) -> bool) {
+        self.formats(what, &tables::formats()[OLD_FORMATS..], holds);
     }
 
     /// A check made of some sizes of annex C; a failure names the sizes.
@@ -64,10 +80,14 @@ impl Report {
 pub fn self_check(annex_c: &AnnexC) -> Report {
     let mut report = Report::default();
     table_4_2(&mut report);
-    table_4_3(&mut report);
+    format_tables(&mut report);
+    extension::tables(&mut report);
     trellis_readings(&mut report);
+    extension::generator(&mut report);
+    extension::bch_codewords(&mut report);
     randomizer(&mut report);
     header(&mut report);
+    extension::descriptors(&mut report);
     annex_c_tables(&mut report, annex_c);
     if report.failed {
         // Broken tables may send the stages below to positions that are not there.
@@ -76,6 +96,7 @@ pub fn self_check(annex_c: &AnnexC) -> Report {
     spread(&mut report, annex_c);
     kept_bits(&mut report, annex_c);
     seeded_blocks(&mut report, annex_c);
+    extension::codewords(&mut report, annex_c);
     starting_states(&mut report, annex_c);
     report
 }
@@ -103,13 +124,13 @@ fn table_4_2(report: &mut Report) {
     );
 }
 
-/// Table 4-3 with the soft share against the equations of 4.1, 4.4, document 01
-/// and document 02, L7.
-fn table_4_3(report: &mut Report) {
+/// The formats with the soft share against the equations of 4.1, 4.4, document 01
+/// and document 02, L7 and L8.
+fn format_tables(report: &mut Report) {
     let numbered = |(i, f): (usize, &Format)| f.number == i as u64 + 1;
     report.check(
-        "table 4-3 has the formats 1 to 27",
-        tables::formats().len() == 27 && tables::formats().iter().enumerate().all(numbered),
+        "table 4-3 has the formats 1 to 27, and document 004 has 28 to 37",
+        tables::formats().len() == 37 && tables::formats().iter().enumerate().all(numbered),
     );
     report.each_format("K = K1 + K2", |f| f.K == f.K1 + f.K2);
     report.each_format("2 I = 3 (K1 + 2)", |f| 2 * f.I == 3 * (f.K1 + 2));
@@ -248,7 +269,8 @@ fn seeded_blocks(report: &mut Report, annex_c: &AnnexC) {
             .collect()
     };
     let ends_at_zero = |f: &Format, block: &[u8]| {
-        let outer = encoder::outer(block);
+        let (soft, _) = encoder::apportioned(f, block);
+        let outer = encoder::outer(soft);
         let kept = encoder::outer_kept(&outer);
         let inner = encoder::inner(&encoder::interleave(annex_c.of_size(f.I), &kept));
         let lengths = kept.len() == f.I && inner.systematic.len() == f.I + 2;
@@ -266,7 +288,7 @@ fn seeded_blocks(report: &mut Report, annex_c: &AnnexC) {
             let labels = encoder::labels(f, &codeword);
             codeword.len() == f.N
                 && labels.len() == SECTION
-                && labels.iter().all(|&l| l >> f.m == 0)
+                && labels.iter().all(|&l| usize::from(l) >> f.m == 0)
         },
     );
     report.each_format("the codeword of a sum is the sum of the codewords", |f| {
@@ -304,7 +326,7 @@ fn starting_states(report: &mut Report, annex_c: &AnnexC) {
     let what = "6-6, 6-7: the starting states from the ends are the plain run's, both trellises";
     report.each_format(what, |f| {
         let block = seeded_block(1000 + f.number, f.K);
-        let inputs = segments::inputs(annex_c.of_size(f.I), &block);
+        let inputs = segments::inputs(f, annex_c.of_size(f.I), &block);
         (inputs.iter()).all(|u| cut_lists(u.len()).iter().all(|cuts| agrees(u, cuts)))
     });
 }
@@ -334,12 +356,10 @@ fn header(report: &mut Report) {
         "5.1: of all register contents and both directions of g1 and g2, one choice gives the 40 printed bits",
         register_choices(&printed) == 1,
     );
-    let words: Vec<Vec<u8>> = (tables::formats().iter())
-        .flat_map(|f| [framing::descriptor(f, 0), framing::descriptor(f, 1)])
-        .collect();
+    let old = &tables::formats()[..OLD_FORMATS];
     report.check(
-        "5.2.1: two frame descriptors differ in 32 bits at least, and some in just 32",
-        smallest_distance(&words) == 32,
+        "5.2.1: two frame descriptors of formats 1 to 27 differ in 32 bits at least, and some in just 32",
+        smallest_distance(&descriptors(old)) == 32,
     );
     let whole = framing::bits_64(framing::SCRAMBLING);
     let without = |place: usize| [&whole[..place], &whole[place + 1..]].concat();
@@ -348,6 +368,13 @@ fn header(report: &mut Report) {
         "5.2.1: the scrambling sequence less one digit is the 63 printed digits",
         (0..whole.len()).any(|place| without(place) == printed),
     );
+}
+
+/// The frame descriptors of some formats, pilots off and on.
+fn descriptors(formats: &[Format]) -> Vec<Vec<u8>> {
+    (formats.iter())
+        .flat_map(|f| [framing::descriptor(f, 0), framing::descriptor(f, 1)])
+        .collect()
 }
 
 /// How many choices of register contents, and of a direction for each
@@ -402,7 +429,7 @@ mod tests {
     fn tables_and_printed_bits() {
         let mut report = Report::default();
         table_4_2(&mut report);
-        table_4_3(&mut report);
+        format_tables(&mut report);
         randomizer(&mut report);
         header(&mut report);
         assert!(!report.failed, "{}", report.text);

@@ -214,7 +214,8 @@ mod tests {
         assert_eq!(taken.front, memory[K..=K]);
         assert_eq!(taken.block, memory[..K]);
     }
-    /// 600,000 is 104 x 5758 + 1168, and 13 x 43678 + 32186.
+
+    /// 600,000 is 104 x 5758 + 1168, 13 x 43678 + 32186 and 9 x 60510 + 55410.
     #[test]
     fn a_look_by_hand() {
         let slicer = |waiting| Slicer {
@@ -224,6 +225,8 @@ mod tests {
         for (waiting, format, blocks, bits) in [
             (600_000, 1, 104, 1168),
             (600_000, 27, 13, 32_186),
+            (600_000, 37, 9, 55_410),
+            (60_509, 37, 0, 60_509),
             (5757, 1, 0, 5757),
             (5758, 1, 1, 0),
             (19_198, 1, 3, 1924),

@@ -1,4 +1,5 @@
-//! Tables 4-2 and 4-3 as printed, and the numbers read from them.
+//! Tables 4-2 and 4-3 of the standard, and tables 3-1, 4-1 and 5-3 of its
+//! extension (document 004), as printed, and the numbers read from them.
 
 use std::sync::OnceLock;
 
@@ -92,6 +93,47 @@ const TABLE_4_3: &str = "\
 26 6 214 41038 61560 43915 4685 48600 56877
 27 6 208 43678 65520 45429 3171 48600 62351";
 
+/// Document 004, table 3-1: ACM format, K1, K2, K.
+const TABLE_3_1: &str = "\
+28 19,198 24,144 43,342
+29 21,358 24,144 45,502
+30 23,518 24,144 47,662
+31 25,918 24,144 50,062
+32 28,318 24,144 52,462
+33 19,198 32,192 51,390
+34 21,358 32,192 53,550
+35 23,518 32,192 55,710
+36 25,918 32,192 58,110
+37 28,318 32,192 60,510";
+
+/// Document 004, table 4-1: ACM format, S_sur, K1, I, S, P, N1, Delta.
+const TABLE_4_1: &str = "\
+28 255 19198 28800 24482 7918 32400 20884
+29 241 21358 32040 25741 6659 32400 25383
+30 230 23518 35280 27051 5349 32400 29933
+31 220 25918 38880 28515 3885 32400 34997
+32 211 28318 42480 29880 2520 32400 39962
+33 255 19198 28800 24482 7918 32400 20884
+34 241 21358 32040 25741 6659 32400 25383
+35 230 23518 35280 27051 5349 32400 29933
+36 220 25918 38880 28515 3885 32400 34997
+37 211 28318 42480 29880 2520 32400 39962";
+
+/// Document 004, table 5-3: ACM format, m, soft bits, K1, I, N1, hard bits, K2,
+/// N2, K, N, efficiency in bits for each symbol. Its numbers have a space within
+/// them, so two stand between columns.
+const TABLE_5_3: &str = "\
+28  7  4  19 198  28 800  32 400  3  24 144  24 300  43 342  56 700  5.35
+29  7  4  21 358  32 040  32 400  3  24 144  24 300  45 502  56 700  5.62
+30  7  4  23 518  35 280  32 400  3  24 144  24 300  47 662  56 700  5.88
+31  7  4  25 918  38 880  32 400  3  24 144  24 300  50 062  56 700  6.18
+32  7  4  28 318  42 480  32 400  3  24 144  24 300  52 462  56 700  6.48
+33  8  4  19 198  28 800  32 400  4  32 192  32 400  51 390  64 800  6.34
+34  8  4  21 358  32 040  32 400  4  32 192  32 400  53 550  64 800  6.61
+35  8  4  23 518  35 280  32 400  4  32 192  32 400  55 710  64 800  6.88
+36  8  4  25 918  38 880  32 400  4  32 192  32 400  58 110  64 800  7.17
+37  8  4  28 318  42 480  32 400  4  32 192  32 400  60 510  64 800  7.47";
+
 /// One entry of table 4-2.
 #[derive(Clone, Copy, Debug, PartialEq, Eq)]
 pub struct PuncturingEntry {
@@ -102,7 +144,8 @@ pub struct PuncturingEntry {
     pub position: usize,
 }
 
-/// One row of table 4-3, and the soft share of document 02, L7.
+/// One ACM format: a row of table 4-3 or of document 004's tables, with the soft
+/// share of document 02, L7.
 #[derive(Clone, Copy, Debug, PartialEq, Eq)]
 pub struct Format {
     pub number: u64,
@@ -122,9 +165,9 @@ pub struct Format {
     pub N: usize,
     /// Parity bits deleted by rate matching.
     pub Delta: usize,
-    /// Bits of a block that go through the trellises.
+    /// Bits of a block that go through the trellises, its first.
     pub K1: usize,
-    /// Bits of a block that are coded otherwise.
+    /// Bits of a block that the BCH code takes.
     pub K2: usize,
     /// Bits of one label that come from the trellises.
     pub soft: usize,
@@ -135,17 +178,34 @@ impl Format {
     pub fn W(&self) -> usize {
         self.I / M
     }
+
+    /// Document 004, 4.4: bits of a codeword's trellis part, which fills the first
+    /// columns.
+    pub fn N1(&self) -> usize {
+        SECTION * self.soft
+    }
 }
 
+/// A printed number by its digits alone: without the comma or the space of its
+/// thousands, and without its decimal point.
 fn number(field: &str) -> usize {
-    field.parse().expect("a decimal number in a printed table")
+    let digits = field.replace([',', ' ', '.'], "");
+    digits.parse().expect("a decimal number in a printed table")
+}
+
+/// The numbers of a printed table, row by row.
+fn rows<const COLUMNS: usize>(text: &str, between: &str) -> Vec<[usize; COLUMNS]> {
+    let row = |line: &str| -> Vec<usize> { line.split(between).map(number).collect() };
+    text.lines()
+        .map(|line| row(line).try_into().expect("a number in each column"))
+        .collect()
 }
 
 fn entry(fields: &[&str]) -> PuncturingEntry {
     PuncturingEntry {
         index: number(fields[0]),
         S_sur: number(fields[1]),
-        rate: number(&fields[2].replace('.', "")),
+        rate: number(fields[2]),
         position: number(fields[3]),
     }
 }
@@ -164,32 +224,73 @@ pub fn table_4_2() -> &'static [PuncturingEntry] {
     })
 }
 
-/// Table 4-3: the 27 ACM formats in order.
+/// Table 4-3: the ACM formats 1 to 27.
+fn table_4_3() -> Vec<Format> {
+    let format = |[number, m, S_sur, K, I, S, P, N, Delta]: [usize; 9]| Format {
+        number: number as u64,
+        m,
+        S_sur,
+        K,
+        I,
+        S,
+        P,
+        N,
+        Delta,
+        // Document 02, L7: in formats 1 to 27 they are K, 0 and m.
+        K1: K,
+        K2: 0,
+        soft: m,
+    };
+    rows(TABLE_4_3, " ").into_iter().map(format).collect()
+}
+
+/// Document 004, table 3-1.
+pub fn table_3_1() -> Vec<[usize; 4]> {
+    rows(TABLE_3_1, " ")
+}
+
+/// Document 004, table 4-1.
+pub fn table_4_1() -> Vec<[usize; 8]> {
+    rows(TABLE_4_1, " ")
+}
+
+/// Document 004, table 5-3; the efficiency in hundredths.
+pub fn table_5_3() -> Vec<[usize; 12]> {
+    rows(TABLE_5_3, "  ")
+}
+
+/// Document 004: the ACM formats 28 to 37. K, K1 and K2 are table 3-1's, as
+/// document 02, L8, has it; that the tables agree where they say the same is seen
+/// by the self-check.
+fn extension() -> Vec<Format> {
+    let tables = table_3_1().into_iter().zip(table_4_1()).zip(table_5_3());
+    tables
+        .map(|((blocks, encoder), symbols)| {
+            let [number, K1, K2, K] = blocks;
+            let [_, S_sur, _, I, S, P, _, Delta] = encoder;
+            let [_, m, soft, _, _, _, _, _, _, _, N, _] = symbols;
+            Format {
+                number: number as u64,
+                m,
+                S_sur,
+                K,
+                I,
+                S,
+                P,
+                N,
+                Delta,
+                K1,
+                K2,
+                soft,
+            }
+        })
+        .collect()
+}
+
+/// The 37 ACM formats in order.
 pub fn formats() -> &'static [Format] {
     static TABLE: OnceLock<Vec<Format>> = OnceLock::new();
-    TABLE.get_or_init(|| {
-        TABLE_4_3
-            .lines()
-            .map(|line| {
-                let fields: Vec<usize> = line.split_whitespace().map(number).collect();
-                Format {
-                    number: fields[0] as u64,
-                    m: fields[1],
-                    S_sur: fields[2],
-                    K: fields[3],
-                    I: fields[4],
-                    S: fields[5],
-                    P: fields[6],
-                    N: fields[7],
-                    Delta: fields[8],
-                    // Document 02, L7: in formats 1 to 27 they are K, 0 and m.
-                    K1: fields[3],
-                    K2: 0,
-                    soft: fields[1],
-                }
-            })
-            .collect()
-    })
+    TABLE.get_or_init(|| [table_4_3(), extension()].concat())
 }
 
 /// The ACM format with this number, if there is one.
@@ -211,7 +312,8 @@ pub fn listing() -> String {
 mod tests {
     use super::*;
 
-    /// Document 01 prints the listing whole; here are its lines.
+    /// Document 01 prints the first 27 lines. The ten others are document 02's, L8:
+    /// K and N of document 004, with the I and W that belong to K1.
     const LISTING: &str = "\
 format,m,K,I,W,N
 1,2,5758,8640,72,16200
@@ -241,18 +343,37 @@ format,m,K,I,W,N
 25,6,38638,57960,483,48600
 26,6,41038,61560,513,48600
 27,6,43678,65520,546,48600
+28,7,43342,28800,240,56700
+29,7,45502,32040,267,56700
+30,7,47662,35280,294,56700
+31,7,50062,38880,324,56700
+32,7,52462,42480,354,56700
+33,8,51390,28800,240,64800
+34,8,53550,32040,267,64800
+35,8,55710,35280,294,64800
+36,8,58110,38880,324,64800
+37,8,60510,42480,354,64800
 ";
 
     #[test]
-    fn listing_is_document_01s() {
+    fn listing_is_the_documents() {
         assert_eq!(listing(), LISTING);
     }
 
     #[test]
-    fn only_1_to_27_are_formats() {
+    fn only_1_to_37_are_formats() {
         assert!(format(0).is_none());
-        assert!((1..=27).all(|number| format(number).is_some()));
-        assert!(format(28).is_none());
+        assert!((1..=37).all(|number| format(number).is_some()));
+        assert!(format(38).is_none());
         assert!(format(257).is_none());
+    }
+
+    #[test]
+    fn a_number_is_its_digits() {
+        assert_eq!(number("43,342"), 43342);
+        assert_eq!(number("43 342"), 43342);
+        assert_eq!(number("5.35"), 535);
+        assert_eq!(rows("1 2,3\n4 5", " "), [[1, 23], [4, 5]]);
+        assert_eq!(rows("1 2  3\n4  5", "  "), [[12, 3], [4, 5]]);
     }
 }

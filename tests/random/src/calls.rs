@@ -395,7 +395,8 @@ fn frame_call(generator: &mut Generator, _: &AnnexC) -> Compared {
     let fails = plan.fails(generator, LENGTH);
     let length = draw::exact_length(generator, &f, |_| FRAME_LABELS, fails);
     let mut labels = draw::list(generator, length, f.m);
-    if plan.fails(generator, ELEMENT) {
+    // Formats 33 to 37 pass this check whatever was planned.
+    if plan.fails(generator, ELEMENT) && draw::can_be_illegal(f.m) {
         draw::spoil(generator, &mut labels, f.m);
     }
     let fails = plan.fails(generator, OUTPUT);
@@ -476,7 +477,8 @@ fn compare_call(generator: &mut Generator, _: &AnnexC) -> Compared {
     let lengths = draw::either(generator, fails)
         .map(|wrong| draw::exact_length(generator, &f, |_| SECTION, wrong));
     let mut lists = lists_of(generator, lengths, f.m);
-    let fails = plan.fails(generator, ELEMENT);
+    // As in a frame.
+    let fails = plan.fails(generator, ELEMENT) && draw::can_be_illegal(f.m);
     let spoilt = draw::either(generator, fails);
     for (list, _) in lists.iter_mut().zip(spoilt).filter(|(_, spoilt)| *spoilt) {
         draw::spoil(generator, list, f.m);

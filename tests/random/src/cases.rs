@@ -16,8 +16,10 @@ use std::time::{Duration, Instant};
 /// 1/3 = 1/168. Next comes a push's refusal with 3. Of 56 cases 4 are pushes,
 /// of 8 pushes one is to fail this check first; of 5 slicers that are drawn for
 /// it one has no bits waiting, and of 8 memories one is empty: 4/56 x 1/8 x 4/5
-/// x 7/8 = 1/160. So 7000 cases, the slicers' runs taken off, miss one of the
-/// outcomes, 75 in all, less than once in 10^17 runs of this program.
+/// x 7/8 = 1/160. A frame's refusal with 3, which 5 of 37 formats do not have, is
+/// more likely: 3/56 x 1/6 x 32/37 = 1/130. So 7000 cases, the slicers' runs taken
+/// off, miss one of the outcomes, 75 in all, less than once in 10^17 runs of this
+/// program.
 const LEAST: u64 = 7000;
 
 /// One case of so many is a run of a slicer, of the formats in turn, so that

@@ -95,6 +95,11 @@ fn top(m: usize) -> u8 {
     ((1u16 << m) - 1) as u8
 }
 
+/// Whether some byte is no element of m bits: of eight bits every byte is one.
+pub fn can_be_illegal(m: usize) -> bool {
+    top(m) < u8::MAX
+}
+
 /// Elements of m bits: random ones as a rule; else one value throughout, or a
 /// single element that is not 0.
 pub fn list(generator: &mut Generator, length: usize, m: usize) -> Vec<u8> {
@@ -112,6 +117,7 @@ pub fn list(generator: &mut Generator, length: usize, m: usize) -> Vec<u8> {
 }
 
 /// Puts an illegal element at the first place, at the last or at any, or some.
+/// There has to be one.
 pub fn spoil(generator: &mut Generator, list: &mut [u8], m: usize) {
     if list.is_empty() {
         return;
@@ -189,20 +195,21 @@ fn cut(generator: &mut Generator, length: usize) -> u16 {
 }
 
 /// Lets one cut fall below the one before it, or lie beyond the end. The first,
-/// and one behind a cut at 0, cannot fall.
+/// and one behind a cut at 0, cannot fall; only the last lies beyond the end
+/// without making the next one fall, so it does so more often.
 fn misplace(generator: &mut Generator, cuts: &mut [u16], length: usize) {
     let last = cuts.len() - 1;
     let any = generator.below(cuts.len());
     let at = generator.pick(&[last.min(1), last, any]);
     let before = if at == 0 { 0 } else { cuts[at - 1] };
-    cuts[at] = if before > 0 && generator.coin() {
+    if before > 0 && generator.coin() {
         let below = generator.below(before.into()) as u16;
-        generator.pick(&[0, before - 1, below])
+        cuts[at] = generator.pick(&[0, before - 1, below]);
     } else {
         let end = length as u16;
         let beyond = end + 1 + generator.below((u16::MAX - end).into()) as u16;
-        generator.pick(&[end + 1, u16::MAX, beyond])
-    };
+        cuts[generator.pick(&[at, last])] = generator.pick(&[end + 1, u16::MAX, beyond]);
+    }
 }
 
 /// Which of two lists have a fault: the first, the second or both; none if
@@ -238,14 +245,42 @@ mod tests {
     }
 
     #[test]
+    fn a_spoilt_list_is_illegal_wherever_a_byte_can_be() {
+        let mut generator = Generator::of_case(1, 1);
+        for m in (1..=8).filter(|&m| can_be_illegal(m)) {
+            for length in [1, 2, 100] {
+                let mut list = list(&mut generator, length, m);
+                assert!(list.iter().all(|&x| x <= top(m)));
+                spoil(&mut generator, &mut list, m);
+                assert!(list.iter().any(|&x| x > top(m)));
+            }
+        }
+        assert!(can_be_illegal(7) && !can_be_illegal(8));
+    }
+
+    #[test]
+    fn changed_elements_stay_legal() {
+        let mut generator = Generator::of_case(1, 1);
+        for m in 1..=8 {
+            for _ in 0..100 {
+                let before = list(&mut generator, 100, m);
+                let mut after = before.clone();
+                change(&mut generator, &mut after, m);
+                assert!(after.iter().all(|&x| x <= top(m)));
+            }
+        }
+    }
+
+    #[test]
     fn cuts_are_good_or_have_the_fault() {
         let mut generator = Generator::of_case(1, 1);
         for f in tables::formats() {
             for _ in 0..100 {
                 let [many, misplaced] = [generator.coin(), generator.coin()];
-                let list = cuts(&mut generator, f.I, many, misplaced);
+                let length = generator.pick(&[f.K1, f.I]);
+                let list = cuts(&mut generator, length, many, misplaced);
                 assert_eq!(few_cuts(&list), !many);
-                assert_eq!(cuts_inside(&list, f.I), !misplaced);
+                assert_eq!(cuts_inside(&list, length), !misplaced);
             }
         }
     }

@@ -106,7 +106,7 @@ pub fn segments_call(generator: &mut Generator, annex_c: &AnnexC) -> Compared {
     let many = draw::either(generator, fails);
     let fails = plan.fails(generator, CUT_PLACE);
     let misplaced = draw::either(generator, fails);
-    let outer = draw::cuts(generator, e.f.K, many[0], misplaced[0]);
+    let outer = draw::cuts(generator, e.f.K1, many[0], misplaced[0]);
     let inner = draw::cuts(generator, e.f.I, many[1], misplaced[1]);
     let lent = [outer, inner].map(|list| Lent::words(generator, &list));
     let cuts = [lent[0].list(), lent[1].list()];
@@ -118,8 +118,8 @@ pub fn segments_call(generator: &mut Generator, annex_c: &AnnexC) -> Compared {
         inner: SegmentStates::default(),
     };
     if number == PASSED {
-        let [block, read] = segments::inputs(annex_c.of_size(e.f.I), e.block.list());
-        expected.outer = segment_states(&block, cuts[0]);
+        let [soft, read] = segments::inputs(&e.f, annex_c.of_size(e.f.I), e.block.list());
+        expected.outer = segment_states(&soft, cuts[0]);
         expected.inner = segment_states(&read, cuts[1]);
     }
     let found = interface::encode_segments(
@@ -160,7 +160,9 @@ fn met_segments(number: u64, f: &Format, [outer, inner]: [&[u16]; 2]) -> Met {
     let mut met = met(number, f);
     let good = match number {
         CUT_COUNT => [outer, inner].map(checks::few_cuts),
-        CUT_PLACE => [(outer, f.K), (inner, f.I)].map(|(list, end)| checks::cuts_inside(list, end)),
+        CUT_PLACE => {
+            [(outer, f.K1), (inner, f.I)].map(|(list, end)| checks::cuts_inside(list, end))
+        }
         _ => return met,
     };
     met.outcome = RefusedFor(number, list_name(good));

@@ -22,7 +22,8 @@ impl Lent<u8> {
         Lent::between(left, list, right)
     }
 
-    /// Random bytes.
+    /// Random bytes: one that a call forgets is what it should write by chance
+    /// alone, even where any byte may be due.
     pub fn filled(generator: &mut Generator, length: usize) -> Lent<u8> {
         let list = generator.bytes(length);
         Lent::new(generator, &list)

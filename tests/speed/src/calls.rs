@@ -196,7 +196,7 @@ impl Arguments {
         Arguments {
             format: *format,
             block,
-            outer_cuts: equal_cuts(format.K, MOST_CUTS + 1),
+            outer_cuts: equal_cuts(format.K1, MOST_CUTS + 1),
             inner_cuts: equal_cuts(format.I, MOST_CUTS + 1),
             codeword: buffers.codeword,
             frame_labels: buffers.labels.repeat(SECTIONS),
@@ -230,18 +230,32 @@ pub struct Buffers {
     block: Vec<u8>,
 }
 
+/// What buffers are filled with before a call. A label of eight bits may be
+/// either, but not both.
+const FILLINGS: [u8; 2] = [u8::MAX, 2];
+
 impl Buffers {
-    /// Filled with a value that no call writes, but what waits with bits.
     pub fn new(format: &Format) -> Buffers {
+        Buffers::filled(format, FILLINGS[0])
+    }
+
+    /// Filled with a value, but what waits with bits.
+    fn filled(format: &Format, value: u8) -> Buffers {
         Buffers {
-            run: vec![u8::MAX; 2 * format.K],
-            work: vec![u8::MAX; format.I],
-            codeword: vec![u8::MAX; format.N],
-            labels: vec![u8::MAX; SECTION],
+            run: vec![value; 2 * format.K],
+            work: vec![value; format.I],
+            codeword: vec![value; format.N],
+            labels: vec![value; SECTION],
             frame: vec![u16::MAX; FRAME_SLOTS],
             waiting: seeded_block(3, MEMORY),
-            block: vec![u8::MAX; format.K],
+            block: vec![value; format.K],
         }
+    }
+
+    /// Filled twice alike, for two sides, with one value and then with another: a
+    /// side that leaves out what the other writes differs from it once at least.
+    fn pairs(format: &Format) -> [[Buffers; 2]; 2] {
+        FILLINGS.map(|value| [(); 2].map(|()| Buffers::filled(format, value)))
     }
 }
 
@@ -303,18 +317,20 @@ pub fn make_segments(a: &Arguments, b: &mut Buffers) -> SegmentsAnswer {
 
 /// Whether it passes and writes what encode does.
 pub fn segments_agree(a: &Arguments) -> bool {
-    let mut buffers = [Buffers::new(&a.format), Buffers::new(&a.format)];
-    let number = make_segments(a, &mut buffers[0]).number;
-    make(Call::Encode, &Library, a, &mut buffers[1]);
-    number == 0 && buffers[0] == buffers[1]
+    Buffers::pairs(&a.format).into_iter().all(|mut buffers| {
+        let number = make_segments(a, &mut buffers[0]).number;
+        make(Call::Encode, &Library, a, &mut buffers[1]);
+        number == 0 && buffers[0] == buffers[1]
+    })
 }
 
 /// Whether a call passes and has the same results on both sides.
 pub fn agree(call: Call, plain: &Plain, a: &Arguments) -> bool {
-    let mut buffers = [Buffers::new(&a.format), Buffers::new(&a.format)];
-    let answers = [
-        make(call, &Library, a, &mut buffers[0]),
-        make(call, plain, a, &mut buffers[1]),
-    ];
-    answers[0] == answers[1] && answers[0].number() == 0 && buffers[0] == buffers[1]
+    Buffers::pairs(&a.format).into_iter().all(|mut buffers| {
+        let answers = [
+            make(call, &Library, a, &mut buffers[0]),
+            make(call, plain, a, &mut buffers[1]),
+        ];
+        answers[0] == answers[1] && answers[0].number() == 0 && buffers[0] == buffers[1]
+    })
 }

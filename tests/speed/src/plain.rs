@@ -1,6 +1,7 @@
 //! A plain encoder to time the library against: the same calls with the same
 //! checks, all tables made beforehand, ordinary loops.
 
+use crate::bch::PlainBch;
 use crate::slicer::PlainSlicer;
 use interface::{BlockAnswer, Comparison, RunAnswer, Slicer, SlicerAnswer};
 use oracle::annex_c::AnnexC;
@@ -42,10 +43,11 @@ impl Tables {
     }
 }
 
-/// The tables of some formats, each at its format's number, and those of the
-/// slicer.
+/// The tables of some formats, each at its format's number, and those of the BCH
+/// code and of the slicer.
 pub struct Plain {
     tables: Vec<Option<Tables>>,
+    bch: PlainBch,
     slicer: PlainSlicer,
 }
 
@@ -59,6 +61,7 @@ impl Plain {
         }
         Plain {
             tables,
+            bch: PlainBch::new(),
             slicer: PlainSlicer::new(),
         }
     }
@@ -85,9 +88,12 @@ impl Plain {
             return 5;
         }
         let work = &mut work[..f.I];
-        outer(block, work);
-        let (upper, lower) = out[..f.N].split_at_mut(f.S);
+        let (soft, hard) = block.split_at(f.K1);
+        let (trellis_part, bch_part) = out[..f.N].split_at_mut(f.N1());
+        outer(soft, work);
+        let (upper, lower) = trellis_part.split_at_mut(f.S);
         inner(t, work, upper, lower);
+        self.bch.encode(hard, bch_part);
         0
     }
 
@@ -183,7 +189,7 @@ fn comparison(number: u64, same: u64, count: u64, first: u64) -> Comparison {
 }
 
 fn top_label(format: &Format) -> u8 {
-    (1 << format.m) - 1
+    u8::MAX >> (8 - format.m)
 }
 
 /// Looks at every element, whatever the first ones are: this way the compiler
