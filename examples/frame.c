@@ -1,5 +1,6 @@
-/* A frame of format 13 from sixteen blocks of test bits; prints the digest of its slots.
- *     cc -Iinclude examples/frame.c build/libsccc.a -o build/frame && build/frame */
+/* A frame from sixteen blocks of test bits, of format 13 or of the one that is given; prints the
+ * digest of its slots.
+ *     cc -Iinclude examples/frame.c build/libsccc.a -o build/frame && build/frame && build/frame 37 */
 #include "sccc.h"
 
 #include <inttypes.h>
@@ -30,13 +31,14 @@ static void pass(const char *call, unsigned number)
     }
 }
 
-int main(void)
+int main(int argc, char **argv)
 {
     static uint8_t block[SCCC_MAX_K], work[SCCC_MAX_I], codeword[SCCC_MAX_N];
     static uint8_t labels[SCCC_FRAME_LABELS];
     static uint16_t slots[SCCC_FRAME_SLOTS];
-    const uint64_t format = 13;
+    const uint64_t format = argc > 1 ? strtoull(argv[1], NULL, 10) : 13;
     const sccc_format_info f = sccc_format(format);
+    pass("format", (unsigned)f.number);
 
     for (uint64_t place = 0; place < SCCC_SECTIONS; place++) {
         uint8_t *section = labels + sccc_section(labels, SCCC_FRAME_LABELS, place).start;

@@ -1,5 +1,8 @@
-"""A frame of format 13 from sixteen blocks of test bits; prints the digest of its slots.
-    PYTHONPATH=python python3 examples/frame.py"""
+"""A frame from sixteen blocks of test bits, of format 13 or of the one that is given; prints the digest of its slots.
+    PYTHONPATH=python python3 examples/frame.py
+    PYTHONPATH=python python3 examples/frame.py 37"""
+import sys
+
 import sccc
 
 
@@ -18,7 +21,7 @@ def digest(slots):
     return d
 
 
-FORMAT = 13
+FORMAT = int(sys.argv[1]) if len(sys.argv) > 1 else 13
 info = sccc.format_info(FORMAT)
 labels = bytearray(sccc.FRAME_LABELS)
 for place in range(sccc.SECTIONS):

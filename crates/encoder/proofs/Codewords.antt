@@ -1,13 +1,12 @@
 -- The codeword of a block: how long it and its parts are, that they are bits, and how it is written.
 use mathlib.Core.Path.{_≡_, sym, ap, ap₂, _∙_}
 use mathlib.Core.Bool.{true}
-use mathlib.Core.List.{List, [], _++_, append-nil}
+use mathlib.Core.List.{List, [], _++_, append-nil, append-assoc}
 use Prim.Native.Nat.{ℕ, _+_, _*_, _%_, _≤_}
 use native.Mathlib.Omega.{arith}
 use lib.ListN.{length, take, drop, length-append, length-drop}
-use lib.Seq.{sets, length-take-le, take-all}
+use lib.Seq.{sets, sets-eq, drop-at, length-take-le, take-all}
 use Rattle.bits.specs.Legal.{allBits}
-use Rattle.bits.proofs.Fill.{sets-front, sets-append}
 use Rattle.bits.proofs.Legal.{legal-take, legal-drop, legal-append}
 use Rattle.acm.specs.Formats.{pieceLength, lastOneStage, isFormat, formatOf, N1, hardBits}
 use Rattle.acm.specs.declared.table.Format.{Format}
@@ -66,22 +65,22 @@ module _ (f : ℕ) (h : isFormat f ≡ true) where
         length-append (fromOuter f (outer (trellisPart f block))) (hardCoded f block)
         ∙ omega (arith, from-outer-length f h (outer (trellisPart f block)), both-long)
 
-    -- the codeword as it is written: the inner trellis, from a workspace with the outer kept bits at its front, to the front; the pieces behind
+    -- the codeword as it is written: the pieces, and then the inner trellis, from a workspace with the outer kept bits at its front, before them
     pub both-written : (rest out : List ℕ) → formatOf f .n ≤ length out
-        → sets (fromOuter f (outer (trellisPart f block) ++ rest) ++ drop (N1 (formatOf f)) out) (N1 (formatOf f)) (hardCoded f block)
+        → fromOuter f (outer (trellisPart f block) ++ rest) ++ drop (N1 (formatOf f)) (sets out (N1 (formatOf f)) (hardCoded f block))
         ≡ codeword f block ++ drop (formatOf f .n) out
     unfolding codeword
     both-written rest out room =
+        let n = N1 (formatOf f) in
         let first = fromOuter f (outer (trellisPart f block)) in
         let second = hardCoded f block in
-        let long : length first ≡ N1 (formatOf f) = from-outer-length f h (outer (trellisPart f block)) in
-        let past : N1 (formatOf f) ≡ 0 + length first = omega (arith, long) in
-        ap (λ (l : List ℕ). sets (l ++ drop (N1 (formatOf f)) out) (N1 (formatOf f)) second) (from-outer-front f h (outer (trellisPart f block)) rest outer-long)
-        ∙ ap (λ (n : ℕ). sets (first ++ drop n out) (N1 (formatOf f)) second) (sym long)
-        ∙ ap₂ (λ (l : List ℕ) (n : ℕ). sets l n second) (sym (sets-front first out (omega (arith, trellis-room room, long)))) past
-        ∙ sym (sets-append out 0 first second)
-        ∙ sets-front (first ++ second) out (omega (arith, codeword-length, room))
-        ∙ ap (λ (n : ℕ). (first ++ second) ++ drop n out) codeword-length
+        let before = take n out in
+        let behind = drop (n + length second) out in
+        ap (λ (l : List ℕ). l ++ drop n (sets out n second)) (from-outer-front f h (outer (trellisPart f block)) rest outer-long)
+        ∙ ap (λ (l : List ℕ). first ++ drop n l) (sets-eq second out n (omega (arith, both-long, room)) ∙ append-assoc before second behind)
+        ∙ ap (λ (l : List ℕ). first ++ l) (drop-at before (second ++ behind) n (length-take-le n out (trellis-room room)))
+        ∙ sym (append-assoc first second behind)
+        ∙ ap (λ (k : ℕ). (first ++ second) ++ drop k out) both-long
 
 -- of formats 1 to 27 the trellis part is the whole block, and so the codeword is what the trellises give
 module _ (f : ℕ) (h : isFormat f ≡ true) (few : f ≤ lastOneStage) (block : List ℕ) where

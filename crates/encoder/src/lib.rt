@@ -19,12 +19,13 @@ pub fn encode(format: u64, block: &[u8], work: &mut [u8], out: &mut [u8]) -> u8
     if number != checks::PASSED {
         return number;
     }
-    // The first K1 bits go through the trellises, the others behind them in pieces.
+    // The first K1 bits go through the trellises, the others stand behind them in pieces. These come first, so that nothing else has to be
+    // kept while the inner trellis runs.
+    steps::put_pieces(format, block, out);
     let f = acm::steps::parameters(format);
     let k1 = f.k1;
     trellis::steps::outer(&block[..k1], work);
     inner::steps::encode(format, work, out);
-    steps::put_pieces(format, block, out);
     checks::PASSED
 }
 

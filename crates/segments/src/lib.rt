@@ -37,11 +37,11 @@ pub fn encode_segments(
             inner: cuts::steps::no_states(),
         };
     }
+    encoder::steps::put_pieces(format, block, out);
     let f = acm::steps::parameters(format);
     let k1 = f.k1;
     let of_outer = outer_segments::steps::encode(&block[..k1], outer, work);
     let of_inner = inner_segments::steps::encode(format, inner, work, out);
-    encoder::steps::put_pieces(format, block, out);
     Segmented {
         number: checks::PASSED,
         outer: of_outer,

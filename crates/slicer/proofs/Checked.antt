@@ -11,7 +11,7 @@ use Rattle.bits.specs.Checks.{_or-else_, passed}
 use Rattle.bits.specs.Legal.{allBits}
 use Rattle.bits.proofs.Passed.{passes}
 use Rattle.bits.proofs.Table.{left-true, right-true}
-use Rattle.acm.specs.Formats.{isFormat}
+use Rattle.acm.specs.Formats.{isFormat, mostK}
 use Rattle.acm.proofs.Laws.{within}
 use Rattle.randomizer.specs.Randomizer.{octetLength}
 use Rattle.transfer.specs.Transfer.{markerLength}
@@ -39,16 +39,12 @@ push-passed s octets memory e =
       memory-fits = leb-true _ _ (part 6 (lit< tt));
     }
 
--- the K of format 37, the largest of 004
-abbrev pub largestK : ℕ
-largestK = 60510
-
 -- 600,000 bytes are enough for the bits that wait once a frame is taken in, whatever the format
-pub memory-enough : (k waiting octets : ℕ) → k ≤ largestK → waiting < k → octets ≤ mostFrame → waiting + (markerLength + octetLength * octets) ≤ memoryLength
+pub memory-enough : (k waiting octets : ℕ) → k ≤ mostK → waiting < k → octets ≤ mostFrame → waiting + (markerLength + octetLength * octets) ≤ memoryLength
 memory-enough k waiting octets most few long = omega arith
 
 pub frame-fits : (s : Slicer) (octets : ℕ) (memory : List ℕ) → PushPassed s octets memory → s .waiting + (markerLength + octetLength * octets) ≤ memoryLength
-frame-fits s octets memory p = memory-enough (K s) (s .waiting) octets (omega (arith, within (s .format) (p .known) .most-k)) (p .few) (p .long)
+frame-fits s octets memory p = memory-enough (K s) (s .waiting) octets (within (s .format) (p .known) .most-k) (p .few) (p .long)
 
 pub record BlockPassed (s : Slicer) (memory : List ℕ) (room : ℕ) : Type 0 where
   pub known : isFormat (s .format) ≡ true

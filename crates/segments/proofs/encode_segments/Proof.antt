@@ -1,19 +1,18 @@
--- A call that fails a check returns before it writes; one that passes leaves what encode leaves, since the segmented trellises do, and the pieces
--- are written as encode writes them.
+-- A call that fails a check returns before it writes; one that passes leaves what encode leaves, since the segmented trellises do, before the
+-- same pieces.
 use mathlib.Core.Path.{_≡_, sym, ap, ap₂, subst, _∙_}
 use mathlib.Core.List.{List, _++_}
 use Prim.Native.Nat.{ℕ}
 use native.Mathlib.Omega.{arith}
 use borrow.Author.Needs.{needs}
 use lib.ListN.{length, take, drop}
-use lib.Seq.{sets}
 use Rattle.bits.specs.Checks.{passed}
 use Rattle.bits.proofs.Passed.{when-passed, when-refused}
 use Rattle.acm.specs.Formats.{formatOf, N1}
 use Rattle.trellis.specs.Trellis.{outer}
 use Rattle.interleaver.specs.Interleaver.{π}
 use Rattle.inner.specs.Registers.{interleaved, fromOuter}
-use Rattle.encoder.specs.Codeword.{trellisPart, hardCoded}
+use Rattle.encoder.specs.Codeword.{trellisPart}
 use Rattle.encoder.specs.Calls.{encodeWorkspace, encodeOutput}
 use Rattle.encoder.proofs.Checked.{EncodePassed, encode-passed}
 use Rattle.encoder.proofs.Codewords.{part-bits, part-long, part-even, lent-is, lent-long, outer-long, trellis-room, both-written}
@@ -35,6 +34,9 @@ written c = c .before .before .before .before
 abbrev lent : tie.After-encode → tie.After-parameters
 lent w = w .before .before .before
 
+abbrev behind : tie.After-parameters → tie.After-put-pieces
+behind p = p .before .before .before
+
 -- what a call that has passed knows of its arguments
 module _ (d : tie.Else1) where
   abbrev s : tie.Start
@@ -52,7 +54,7 @@ module _ (d : tie.Else1) where
 -- the part of the block that is lent to the outer trellis, and how many of its bits are kept
 module _ (p : tie.After-parameters) where
   abbrev past : tie.Else1
-  past = p .before
+  past = behind p .before .before
 
   abbrev part : List ℕ
   part = trellisPart (s past .args .format) (s past .args .block .now)
@@ -88,8 +90,13 @@ returns c =
       (when-refused _ _ _ (refused r), when-refused _ _ _ (refused r)),
     )
 
+put-pieces-requires : tie.Need-put-pieces-requires
+put-pieces-requires c κs =
+    let h = encodes (c .before) in
+    (h .known, h .long, h .bits, h .out-fits)
+
 parameters-requires : tie.Need-parameters-requires
-parameters-requires c κs = encodes c .known
+parameters-requires c κs = encodes (c .before .before .before .before) .known
 
 slice-aggregate-encode : tie.Need-slice-aggregate-encode
 slice-aggregate-encode c =
@@ -117,18 +124,12 @@ encode-requires-2 c κs =
     let p = lent w in
     let h = encodes (past p) in
     let a = s (past p) .args in (
-      (h .known, omega (arith, w .encode .kept .1 .1 .0, h .work-fits), trellis-room _ (h .known) (h .out-fits)),
+      (h .known, omega (arith, w .encode .kept .1 .1 .0, h .work-fits), trellis-room _ (h .known) (omega (arith, behind p .put-pieces .kept .1 .1 .0, h .out-fits))),
       (
         sound (past p) .inner-cuts,
         rw (w .encode .ensures .1, part-is p) (work-bits (a .format) (h .known) (part p) _ (long p) (part-bits (a .format) (a .block .now) (h .bits))),
       ),
     )
-
-put-pieces-requires : tie.Need-put-pieces-requires
-put-pieces-requires c κs =
-    let n = c .before .before .before in
-    let h = encodes (past (lent (written (n .before)))) in
-    (h .known, h .long, h .bits, omega (arith, n .encode2 .kept .1 .1 .1 .0, h .out-fits))
 
 same-length : tie.Need-same-length
 same-length c = search needs
@@ -139,7 +140,7 @@ same-length-2 c = search needs
 returns-2 : tie.Need-returns-2
 unfolding segmented segmentsWorkspace segmentsOutput encodeWorkspace encodeOutput
 returns-2 c =
-    let n = c .before .before .before .before .before .before in
+    let n = c .before .before in
     let w = written (n .before) in
     let p = lent w in
     let d = past p in
@@ -152,9 +153,8 @@ returns-2 c =
       ap₂ {C = Segmented} (λ (o i : States). (record { number = passed; outer = o; inner = i })) outer-states inner-states ∙ when-passed _ _ _ (zero d),
       (
         work ∙ ap (λ (n : ℕ). outer (part p) ++ drop n (a .work .now)) (long p) ∙ when-passed _ _ _ (sound d .encodes) ∙ when-passed _ _ _ (zero d),
-        c .before .before .put-pieces .ensures
-            ∙ ap (λ (l : List ℕ). sets l (N1 (formatOf f)) (hardCoded f (a .block .now)))
-            (n .encode2 .ensures .1 ∙ ap (λ (l : List ℕ). fromOuter f l ++ drop (N1 (formatOf f)) (a .out .now)) work)
+        n .encode2 .ensures .1
+            ∙ ap₂ (λ (l out : List ℕ). fromOuter f l ++ drop (N1 (formatOf f)) out) work (behind p .put-pieces .ensures)
             ∙ both-written f (h .known) (a .block .now) (h .long) _ (a .out .now) (h .out-fits)
             ∙ when-passed _ _ _ (sound d .encodes) ∙ when-passed _ _ _ (zero d),
       ),
@@ -168,11 +168,11 @@ encode-segments-spec =
     no-states-requires
     no-states-requires-2
     returns
+    put-pieces-requires
     parameters-requires
     slice-aggregate-encode
     encode-requires
     encode-requires-2
-    put-pieces-requires
     same-length
     same-length-2
     returns-2)
