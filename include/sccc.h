@@ -1,6 +1,6 @@
 /*
- * sccc.h: the SCCC encoder of CCSDS 131.2-O-1 and of its extension to 128APSK and 256APSK (document
- * 004 here: formats 28 to 37) for C and C++, from transfer frames to information blocks, from a
+ * sccc.h: the SCCC encoder of CCSDS 131.2-O-1 and of its extension CCSDS 131.21-O-1 (SCCC-X, here
+ * document 004: formats 28 to 37) for C and C++, from transfer frames to information blocks, from a
  * block to its codeword, the codeword's labels and a frame without pilots, and a comparison of two
  * label lists. Link build/libsccc.a or build/libsccc.so (x86-64 Linux).
  *

@@ -2,7 +2,7 @@
 use mathlib.Core.Path.{_≡_, refl, sym, ap, ap₂, _∙_}
 use mathlib.Core.Bool.{true}
 use mathlib.Core.List.{List, [], _∷_}
-use Prim.Native.Nat.{ℕ, zero, suc, _+_, _-_, _*_, _/_, _%_, _≤_}
+use Prim.Native.Nat.{ℕ, zero, suc, _+_, _-_, _*_, _/_, _%_}
 use native.Mathlib.Nat.{mod-add-mod, add-mod-mod, mod-add-div, add-mul-mod-self-left}
 use native.Mathlib.Omega.{arith}
 use borrow.Author.Tests.{le-leb}

@@ -1,5 +1,5 @@
 -- The register in a word: eight bits at once, and a list from some place on.
-use mathlib.Core.Path.{_≡_, refl, sym, ap, ap₂, _∙_}
+use mathlib.Core.Path.{_≡_, sym, ap, ap₂, _∙_}
 use mathlib.Core.Bool.{Bool, true, _&&_}
 use mathlib.Core.List.{List, _++_}
 use Prim.Native.Nat.{ℕ, _+_, _*_, _/_, _%_, _^_, _≤_, _<_}
@@ -18,7 +18,7 @@ use Rattle.bits.specs.Words.{bitsOf}
 use Rattle.bits.proofs.Same.{same-equal}
 use Rattle.bits.proofs.Table.{every, every-at, left-true, right-true}
 use Rattle.bits.proofs.Words.{length-bits, bits-split, bits-low, bits-mod, bits-legal, bits-xor}
-use Rattle.bch.specs.Bch.{checkLength, zeros, printed, lower}
+use Rattle.bch.specs.Bch.{checkLength, zeros, lower}
 use Rattle.bch.specs.Register.{byteLength, Table, registerFrom}
 use Rattle.bch.proofs.Laws.{lower-length, some}
 use Rattle.bch.proofs.Registers.{register-append, several}

@@ -4,22 +4,23 @@ use mathlib.Core.Bool.{Bool, true, _&&_, _||_}
 use mathlib.Core.List.{List, [], _∷_, _++_}
 use Prim.Native.Nat.{ℕ, suc, _+_, _-_, _*_, _/_, _%_, _^_, _≤_, _<_}
 use native.Mathlib.Omega.{arith}
-use borrow.Author.Tests.{leb-true, lt-leb, eqb-true}
+use borrow.Author.Tests.{leb-true, le-leb, lt-leb, eqb-true}
 use lib.Dec.{leb, eqb, lit<}
-use lib.ListN.{length, getD, take, drop, replicate}
-use lib.Seq.{take-all, getD-append-add}
+use lib.ListN.{length, getD, replicate, length-replicate}
+use lib.Seq.{getD-append-add}
 use Rattle.bits.specs.Legal.{allBits}
 use Rattle.bits.specs.Sum.{_⊕*_, bit}
+use Rattle.bits.proofs.Legal.{legal-repeated}
 use Rattle.bits.proofs.Table.{left-true, right-true, every, every-at, below}
 use Rattle.acm.specs.Formats.{symbols, formats, lastFormat, lastOneStage, isFormat, formatOf, N1, hardBits}
 use Rattle.acm.specs.declared.table.Format.{Format}
-use Rattle.acm.proofs.Laws.{format-sound, format-test, all-soft}
+use Rattle.acm.proofs.Laws.{format-sound, format-test}
 use Rattle.trellis.specs.Trellis.{outer}
-use Rattle.annex_c.specs.AnnexC.{Vectors, sizeOf}
+use Rattle.annex_c.specs.AnnexC.{sizeOf}
 use Rattle.interleaver.specs.Interleaver.{permuted, π}
-use Rattle.inner.specs.Registers.{registers, interleaved, fromOuter}
+use Rattle.inner.specs.Registers.{fromOuter}
 use Rattle.inner.proofs.Codewords.{from-outer-length}
-use Rattle.mapping.specs.Labels.{label, labels}
+use Rattle.mapping.specs.Labels.{label}
 use Rattle.mapping.proofs.Rows.{label-at, label-first, label-last, label-front}
 use Rattle.bch.specs.Bch.{coded}
 use Rattle.bch.proofs.Laws.{multiples, filling}
@@ -29,7 +30,7 @@ use Rattle.header.proofs.Descriptor.{six-rows}
 use Rattle.encoder.specs.Codeword.{trellisPart, hardPart, hardCoded, codeword}
 use Rattle.encoder.proofs.Codewords.{codeword-bits, hard-long, hard-none, part-long, part-whole, one-stage}
 use Rattle.claims.specs.Demand3.{Block, blockLabels}
-use Rattle.claims.specs.Extension.{twin, piece, Extended, Extends, Keeps, KeepsDescriptor, Multiples, Filling, Extension}
+use Rattle.claims.specs.Extension.{twin, piece, Extends, Extendable, Keeps, KeepsDescriptor, Multiples, Filling, Extension}
 
 -- what a format shares with its twin
 abbrev shared : Format → Format → List Bool
@@ -129,6 +130,12 @@ extends f h high block B = record {
   columns = columns f h high block B;
 }
 
+given : (f x : ℕ) → x ≤ 1 → Block f (replicate (formatOf f .k) x)
+given f x h = record { long = length-replicate {A = ℕ} (formatOf f .k) x; bits = legal-repeated 1 (formatOf f .k) x h }
+
+extendable : Extendable
+extendable f low high = (rw (le-leb 1 f (omega arith), le-leb f lastFormat high), given f 0 (omega arith), given f 1 (omega arith))
+
 keeps : Keeps
 keeps f h few block B = (part-whole f h few block (B .long), hard-none f h few block, one-stage f h few block (B .long))
 
@@ -145,6 +152,7 @@ zeros-change-nothing = filling
 pub extension : Extension
 extension = record {
   extends = extends;
+  extendable = extendable;
   keeps = keeps;
   keeps-descriptor = keeps-descriptor;
   multiples = multiple-of-g;

@@ -7,7 +7,7 @@ use Prim.Native.Nat.{ℕ, suc, _+_, _-_, _*_, _/_, _%_, _^_, _≤_, _<_}
 use lib.ListN.{length, getD, take, drop, replicate}
 use Rattle.bits.specs.Legal.{allBits}
 use Rattle.bits.specs.Sum.{_⊕*_, bit}
-use Rattle.acm.specs.Formats.{symbols, pieceLength, lastOneStage, isFormat, formatOf, hardBits}
+use Rattle.acm.specs.Formats.{symbols, pieceLength, lastFormat, lastOneStage, isFormat, formatOf, hardBits}
 use Rattle.trellis.specs.Trellis.{outer}
 use Rattle.inner.specs.Registers.{fromOuter}
 use Rattle.bch.specs.Division.{remainder}
@@ -37,6 +37,10 @@ pub record Extended (f : ℕ) (block : List ℕ) : Type 0 where
 abbrev pub Extends : Type 0
 Extends = (f : ℕ) → isFormat f ≡ true → lastOneStage < f → (block : List ℕ) → Block f block → Extended f block
 
+-- there are such formats, those from 28 to 37, and such blocks: in every format one of zeros and one of ones
+abbrev pub Extendable : Type 0
+Extendable = (f : ℕ) → lastOneStage < f → f ≤ lastFormat → (isFormat f ≡ true) × Block f (replicate (formatOf f .k) 0) × Block f (replicate (formatOf f .k) 1)
+
 -- up to 27 the codeword is what it was before L8, all of it from the trellises, and so are the labels
 abbrev pub Keeps : Type 0
 Keeps =
@@ -64,6 +68,7 @@ Filling = (bits : List ℕ) → allBits bits ≡ true → checkBits bits ≡ rem
 
 pub record Extension : Type 0 where
   pub extends : Extends
+  pub extendable : Extendable
   pub keeps : Keeps
   pub keeps-descriptor : KeepsDescriptor
   pub multiples : Multiples

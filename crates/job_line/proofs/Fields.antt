@@ -1,10 +1,10 @@
 -- A text is a field exactly if it has 1 to 3 digits without a leading zero.
-use mathlib.Core.Path.{_≡_, refl, sym, ap, _∙_}
-use mathlib.Core.Bool.{true, false, false≢true}
+use mathlib.Core.Path.{_≡_, sym, ap, _∙_}
+use mathlib.Core.Bool.{true, false}
 use mathlib.Core.List.{List, [], _∷_, _++_, append-nil, append-assoc}
 use Prim.Native.Nat.{ℕ, zero, suc, _+_, _-_, _*_, _≤_, _<_}
 use native.Mathlib.Omega.{arith}
-use borrow.Author.Tests.{leb-true, ltb-true, eqb-true, eqb-false, eq-eqb, lt-ltb}
+use borrow.Author.Tests.{leb-true, ltb-true, eqb-true, eqb-false, lt-ltb}
 use lib.Dec.{eqb, leb, ltb}
 use lib.ListN.{length, getD}
 use Rattle.bits.specs.Same.{same}

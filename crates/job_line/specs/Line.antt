@@ -1,9 +1,9 @@
 -- The job line (document 01): format, comma, pattern, line feed, end.
 use mathlib.Core.Path.{_≡_}
-use mathlib.Core.Bool.{Bool, true, false, _&&_}
+use mathlib.Core.Bool.{Bool, true, _&&_}
 use mathlib.Core.List.{List, [], _∷_, map}
 use Prim.Native.Nat.{ℕ, _+_, _-_, _*_, _^_, _<_}
-use lib.Dec.{leb, eqb, ltb}
+use lib.Dec.{leb, ltb}
 use lib.ListN.{take, drop}
 use Rattle.bits.specs.Choice.{if_then_else_}
 use Rattle.bits.specs.Digits.{valueFrom}

@@ -1,5 +1,4 @@
 -- The eight bits that leave, with the byte, choose the table's entry; the others move up.
-use mathlib.Core.Path.{_≡_}
 use Prim.Native.Nat.{ℕ, _*_, _/_, _%_, _^_, _<_}
 use native.Mathlib.Omega.{arith}
 use borrow.Author.Needs.{needs}

@@ -1,9 +1,8 @@
 -- After j codewords, what is left to store are those of the pieces from j on.
-use mathlib.Core.Path.{_≡_, ap}
+use mathlib.Core.Path.{ap}
 use Prim.Native.Nat.{ℕ, _+_, _-_, _*_, _%_, _≤_}
 use native.Mathlib.Omega.{arith}
 use borrow.Author.Needs.{needs}
-use lib.ListN.{length}
 use Rattle.bits.proofs.Legal.{legal-take, legal-drop}
 use Rattle.bits.proofs.Fill.{Left, left-as, fill-start, fill-end}
 use Rattle.acm.specs.Formats.{symbols, pieceLength}
