@@ -1,4 +1,4 @@
-"""The SCCC encoder of CCSDS 131.2-O-1 and of its extension CCSDS 131.21-O-1 (SCCC-X, formats 28 to 37), over the shared object libsccc.so.
+"""The SCCC encoder of CCSDS 131.2-O-1 and of CCSDS 131.21-O-1 (SCCC-X, formats 28 to 37), over the shared object libsccc.so.
 
     import sccc
 

@@ -2,7 +2,7 @@
 use mathlib.Core.Path.{_≡_, sym, ap, ap₂, _∙_}
 use mathlib.Core.Bool.{Bool, true, _&&_}
 use mathlib.Core.List.{List, _++_}
-use Prim.Native.Nat.{ℕ, _+_, _*_, _/_, _%_, _^_, _≤_, _<_}
+use Prim.Native.Nat.{ℕ, _+_, _-_, _*_, _/_, _%_, _^_, _≤_, _<_}
 use native.Mathlib.Nat.{mul-div-cancel}
 use native.Mathlib.Omega.{arith}
 use borrow.Author.Tests.{ltb-true}
@@ -23,6 +23,10 @@ use Rattle.bch.specs.Register.{byteLength, Table, registerFrom}
 use Rattle.bch.proofs.Laws.{lower-length, some}
 use Rattle.bch.proofs.Registers.{register-append, several}
 
+-- bits of the register that stay when eight leave
+abbrev pub staying : ℕ
+staying = checkLength - byteLength
+
 cleared : (w : ℕ) → bitsOf byteLength (w * 2 ^ byteLength) ≡ zeros byteLength
 unfolding bitsOf
 cleared w =
@@ -37,23 +41,23 @@ several-here us r e low h =
     ∙ ap (λ (n : ℕ). (drop (length us) r ++ zeros (length us)) ⊕* registerFrom lower (zeros n) (us ⊕* take (length us) r)) lower-length
 
 -- eight bits at once
-module _ (word byte : ℕ) (entry : ℕ) (is : bitsOf checkLength entry ≡ registerFrom lower (zeros checkLength) (bitsOf byteLength (bitXor byte (word / 2 ^ 44)))) where
+module _ (word byte : ℕ) (entry : ℕ) (is : bitsOf checkLength entry ≡ registerFrom lower (zeros checkLength) (bitsOf byteLength (bitXor byte (word / 2 ^ staying)))) where
   pub feed-bits : bitsOf checkLength (bitXor (word * 2 ^ byteLength % 2 ^ checkLength) entry) ≡ registerFrom lower (bitsOf checkLength word) (bitsOf byteLength byte)
   feed-bits =
       let us = bitsOf byteLength byte in
-      let high = bitsOf byteLength (word / 2 ^ 44) in
-      let low = bitsOf 44 word in
-      let many = length-bits byteLength (word / 2 ^ 44) in
+      let high = bitsOf byteLength (word / 2 ^ staying) in
+      let low = bitsOf staying word in
+      let many = length-bits byteLength (word / 2 ^ staying) in
       let n : length us ≡ byteLength = length-bits byteLength byte in
       let moved : bitsOf checkLength (word * 2 ^ byteLength % 2 ^ checkLength) ≡ low ++ zeros byteLength =
-      bits-mod checkLength (word * 2 ^ byteLength) ∙ bits-split 44 byteLength (word * 2 ^ byteLength)
-      ∙ ap₂ (λ (k : ℕ) (l : List ℕ). bitsOf 44 k ++ l) (mul-div-cancel word (pow-pos byteLength)) (cleared word) in
+      bits-mod checkLength (word * 2 ^ byteLength) ∙ bits-split staying byteLength (word * 2 ^ byteLength)
+      ∙ ap₂ (λ (k : ℕ) (l : List ℕ). bitsOf staying k ++ l) (mul-div-cancel word (pow-pos byteLength)) (cleared word) in
       bits-xor checkLength (word * 2 ^ byteLength % 2 ^ checkLength) entry
-      ∙ ap₂ (λ (a b : List ℕ). a ⊕* b) moved (is ∙ ap (registerFrom lower (zeros checkLength)) (bits-xor byteLength byte (word / 2 ^ 44)))
+      ∙ ap₂ (λ (a b : List ℕ). a ⊕* b) moved (is ∙ ap (registerFrom lower (zeros checkLength)) (bits-xor byteLength byte (word / 2 ^ staying)))
       ∙ sym
       (several-here us (bitsOf checkLength word) (length-bits checkLength word) (omega (arith, n)) (bits-legal checkLength word)
       ∙ ap (λ (k : ℕ). (drop k (bitsOf checkLength word) ++ zeros k) ⊕* registerFrom lower (zeros checkLength) (us ⊕* take k (bitsOf checkLength word))) n
-      ∙ ap (λ (l : List ℕ). (drop byteLength l ++ zeros byteLength) ⊕* registerFrom lower (zeros checkLength) (us ⊕* take byteLength l)) (bits-split byteLength 44 word)
+      ∙ ap (λ (l : List ℕ). (drop byteLength l ++ zeros byteLength) ⊕* registerFrom lower (zeros checkLength) (us ⊕* take byteLength l)) (bits-split byteLength staying word)
       ∙ ap₂ (λ (a b : List ℕ). (a ++ zeros byteLength) ⊕* registerFrom lower (zeros checkLength) (us ⊕* b)) (drop-at high low byteLength many) (take-at high low byteLength many))
 
 -- the list from i on, fed to a register that then holds another word
@@ -66,7 +70,7 @@ feed-next list i word next byte b e =
     ∙ ap (λ (r : List ℕ). registerFrom lower r (drop (i + byteLength) list)) (sym e)
 
 -- a table, by one test over its entries
-abbrev pub test : ℕ → ℕ → Bool
+abbrev test : ℕ → ℕ → Bool
 test byte word = ltb word (2 ^ checkLength) && same (bitsOf checkLength word) (registerFrom lower (zeros checkLength) (bitsOf byteLength byte))
 
 pub table-of : (table : List ℕ) → length table ≡ 2 ^ byteLength → every test 0 table ≡ true → Table table

@@ -1,5 +1,5 @@
 // Opened to the layers above alone: a codeword of the BCH code. The register is held in a word, its first bit weighing most, and takes eight bits
-// at once: those that leave it, with the eight that come, say what a table has to be added to the others.
+// at once, for speed: the eight that leave it, added to the eight that come, choose the entry of a table that is added to those that stay.
 ghost use mathlib.Core.Path.{_≡_};
 ghost use mathlib.Core.Bool.{true};
 ghost use Prim.Native.Nat.{_+_, _%_, _^_, _≤_, _<_};
@@ -54,7 +54,7 @@ fn feed(table: &[u64], word: u64, byte: u64) -> u64
     ensures { λ r. ⌜ (r < 2 ^ checkLength) × (bitsOf checkLength r ≡ registerFrom lower (bitsOf checkLength word) (bitsOf byteLength byte)) ⌝ }
 {
     let leaving = (byte ^ (word >> (CHECK_LENGTH - BYTE_LENGTH))) as usize;
-    (word * 256 % (1 << CHECK_LENGTH)) ^ table[leaving]
+    (word * (1 << BYTE_LENGTH) % (1 << CHECK_LENGTH)) ^ table[leaving]
 }
 
 // Eight bits from the place at on, the first weighing 128.

@@ -20,7 +20,7 @@ use Rattle.annex_c.specs.AnnexC.{sizeOf}
 use Rattle.interleaver.specs.Interleaver.{permuted, π}
 use Rattle.inner.specs.Registers.{fromOuter}
 use Rattle.inner.proofs.Codewords.{from-outer-length}
-use Rattle.mapping.specs.Labels.{label}
+use Rattle.mapping.specs.Labels.{label, labels}
 use Rattle.mapping.proofs.Rows.{label-at, label-first, label-last, label-front}
 use Rattle.bch.specs.Bch.{coded}
 use Rattle.bch.proofs.Laws.{multiples, filling}
@@ -137,7 +137,9 @@ extendable : Extendable
 extendable f low high = (rw (le-leb 1 f (omega arith), le-leb f lastFormat high), given f 0 (omega arith), given f 1 (omega arith))
 
 keeps : Keeps
-keeps f h few block B = (part-whole f h few block (B .long), hard-none f h few block, one-stage f h few block (B .long))
+keeps f h few block B =
+    let is = one-stage f h few block (B .long) in
+    (part-whole f h few block (B .long), hard-none f h few block, is, ap (labels (formatOf f .m)) is)
 
 keeps-descriptor : KeepsDescriptor
 unfolding descriptor

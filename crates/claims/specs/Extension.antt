@@ -10,6 +10,7 @@ use Rattle.bits.specs.Sum.{_⊕*_, bit}
 use Rattle.acm.specs.Formats.{symbols, pieceLength, lastFormat, lastOneStage, isFormat, formatOf, hardBits}
 use Rattle.trellis.specs.Trellis.{outer}
 use Rattle.inner.specs.Registers.{fromOuter}
+use Rattle.mapping.specs.Labels.{labels}
 use Rattle.bch.specs.Division.{remainder}
 use Rattle.bch.specs.Bch.{checkLength, zeroFilling, zeros, lower, checkBits, coded}
 use Rattle.header.specs.Descriptor.{codeLength, G, addRows, twice, scrambling, descriptor}
@@ -41,11 +42,12 @@ Extends = (f : ℕ) → isFormat f ≡ true → lastOneStage < f → (block : Li
 abbrev pub Extendable : Type 0
 Extendable = (f : ℕ) → lastOneStage < f → f ≤ lastFormat → (isFormat f ≡ true) × Block f (replicate (formatOf f .k) 0) × Block f (replicate (formatOf f .k) 1)
 
--- up to 27 the codeword is what it was before L8, all of it from the trellises, and so are the labels
+-- up to 27 codeword and labels are what they were before L8, all of them from the trellises
 abbrev pub Keeps : Type 0
 Keeps =
     (f : ℕ) → isFormat f ≡ true → f ≤ lastOneStage → (block : List ℕ) → Block f block
     → (trellisPart f block ≡ block) × (hardCoded f block ≡ []) × (codeword f block ≡ fromOuter f (outer block))
+    × (blockLabels f block ≡ labels (formatOf f .m) (fromOuter f (outer block)))
 
 -- and so is the descriptor: 000's (5.2.1) is made from b1 to b6 alone, with the last six rows
 abbrev pub information000 : ℕ → ℕ → List ℕ
