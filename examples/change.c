@@ -65,7 +65,8 @@ static sccc_slicer make_frame(sccc_slicer slicer)
         pass("encode", sccc_encode(slicer.format, block, f.k, work, f.i, codeword, f.n));
         pass("labels", sccc_labels(slicer.format, codeword, f.n, section, SCCC_SYMBOLS));
     }
-    pass("frame", sccc_frame(slicer.format, labels, SCCC_FRAME_LABELS, slots, SCCC_FRAME_SLOTS));
+    pass("frame", sccc_frame(slicer.format, SCCC_PILOTS_OFF, labels, SCCC_FRAME_LABELS, slots,
+                             SCCC_FRAME_SLOTS));
     return slicer;
 }
 

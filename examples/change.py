@@ -37,7 +37,7 @@ def make_frame(slicer):
     for place in range(sccc.SECTIONS):
         codeword = sccc.encode(slicer.format, take(slicer))
         sccc.labels(slicer.format, codeword, out=sccc.section(labels, place))
-    return sccc.frame(slicer.format, labels)
+    return sccc.frame(slicer.format, 0, labels)
 
 
 slicer = sccc.Slicer(13)

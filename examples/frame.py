@@ -1,6 +1,7 @@
-"""A frame from sixteen blocks of test bits, of format 13 or of the one that is given; prints the digest of its slots.
+"""A frame from sixteen blocks of test bits, of format 13 without pilots or of the format and the choice of pilots that are given;
+prints the digests of its slots and of the labels found in them.
     PYTHONPATH=python python3 examples/frame.py
-    PYTHONPATH=python python3 examples/frame.py 37"""
+    PYTHONPATH=python python3 examples/frame.py 37 1"""
 import sys
 
 import sccc
@@ -21,11 +22,18 @@ def digest(slots):
     return d
 
 
+def receive(pilots, slots):
+    """What a receiver finds behind the header: the labels, and no pilots."""
+    body = slots[sccc.HEADER_SLOTS :]
+    return [slot for s, slot in enumerate(body) if not pilots or s % sccc.SUBSECTION_SLOTS < sccc.SUBSECTION_LABELS]
+
+
 FORMAT = int(sys.argv[1]) if len(sys.argv) > 1 else 13
+PILOTS = int(sys.argv[2]) if len(sys.argv) > 2 else 0
 info = sccc.format_info(FORMAT)
 labels = bytearray(sccc.FRAME_LABELS)
 for place in range(sccc.SECTIONS):
     codeword = sccc.encode(FORMAT, block(2000 + 16 * FORMAT + place, info.k))
     sccc.labels(FORMAT, codeword, out=sccc.section(labels, place))
-slots = sccc.frame(FORMAT, labels)
-print(f"format {FORMAT}, frame digest {digest(slots)}")
+slots = sccc.frame(FORMAT, PILOTS, labels)
+print(f"format {FORMAT}, pilots {PILOTS}, frame digest {digest(slots)}, labels digest {digest(receive(PILOTS, slots))}")

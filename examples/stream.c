@@ -56,7 +56,8 @@ int main(void)
         pass("encode", sccc_encode(format, block, f.k, work, f.i, codeword, f.n));
         pass("labels", sccc_labels(format, codeword, f.n, section, SCCC_SYMBOLS));
     }
-    pass("frame", sccc_frame(format, labels, SCCC_FRAME_LABELS, slots, SCCC_FRAME_SLOTS));
+    pass("frame", sccc_frame(format, SCCC_PILOTS_OFF, labels, SCCC_FRAME_LABELS, slots,
+                             SCCC_FRAME_SLOTS));
     printf("format %" PRIu64 ", transfer frames of %zu octets, frame digest %" PRIu64 "\n", format,
            sizeof transfer, digest(slots, SCCC_FRAME_SLOTS));
     return EXIT_SUCCESS;

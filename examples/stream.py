@@ -35,5 +35,5 @@ labels = bytearray(sccc.FRAME_LABELS)
 for place, block in zip(range(sccc.SECTIONS), blocks()):
     codeword = sccc.encode(FORMAT, block)
     sccc.labels(FORMAT, codeword, out=sccc.section(labels, place))
-slots = sccc.frame(FORMAT, labels)
+slots = sccc.frame(FORMAT, 0, labels)
 print(f"format {FORMAT}, transfer frames of {LENGTH} octets, frame digest {digest(slots)}")

@@ -1,8 +1,8 @@
 /*
  * sccc.h: the SCCC encoder of CCSDS 131.2-O-1 and of its extension CCSDS 131.21-O-1 (SCCC-X, here
  * document 004: formats 28 to 37) for C and C++, from transfer frames to information blocks, from a
- * block to its codeword, the codeword's labels and a frame without pilots, and a comparison of two
- * label lists. Link build/libsccc.a or build/libsccc.so (x86-64 Linux).
+ * block to its codeword, the codeword's labels and a frame with or without pilots, and a comparison
+ * of two label lists. Link build/libsccc.a or build/libsccc.so (x86-64 Linux).
  *
  * Data      A bit is a byte, 0 or 1. A label is a byte below 2^m. A slot of a frame is a uint16_t,
  *           and so is a cut of a trellis' input. An octet of a transfer frame is a byte. Places and
@@ -55,17 +55,27 @@ extern "C" {
 #define SCCC_BLOCK_WAITS 11     /* K or more bits still wait */
 #define SCCC_TOO_MANY_CUTS 12   /* a list has more than fifteen cuts */
 #define SCCC_BAD_CUT 13         /* a cut falls below the one before it, or lies beyond the input */
+#define SCCC_BAD_PILOTS 14      /* the pilot choice is not 0 or 1 */
 
 /* Sizes that all formats share, and the largest of those that they do not. */
 #define SCCC_FORMATS 37          /* the formats are 1 to 37 */
 #define SCCC_SYMBOLS 8100        /* labels of a codeword */
 #define SCCC_SECTIONS 16         /* codewords of a frame */
 #define SCCC_FRAME_LABELS 129600 /* labels of a frame */
-#define SCCC_FRAME_SLOTS 129920  /* slots of a frame */
 #define SCCC_SEGMENTS 16         /* segments of a trellis' input, at most */
 #define SCCC_MAX_K 60510         /* bits of a block */
 #define SCCC_MAX_I 65520         /* bytes of a workspace */
 #define SCCC_MAX_N 64800         /* bits of a codeword */
+
+/* The frame's choice of pilots, and its slots. */
+#define SCCC_PILOTS_OFF 0
+#define SCCC_PILOTS_ON 1
+#define SCCC_FRAME_SLOTS 129920       /* slots of a frame without pilots */
+#define SCCC_PILOT_FRAME_SLOTS 133760 /* and of one with them */
+#define SCCC_HEADER_SLOTS 320         /* slots of marker and descriptor, before the first label */
+#define SCCC_SUBSECTION_LABELS 540    /* labels that the pilots follow */
+#define SCCC_SUBSECTION_SLOTS 556     /* these labels and their sixteen pilots */
+#define SCCC_PILOT 258                /* what a pilot's slot holds */
 
 /* The slicer's sizes. */
 #define SCCC_LEAST_TRANSFER_FRAME 223  /* octets of a transfer frame, at least */
@@ -257,21 +267,27 @@ uint8_t sccc_labels(uint64_t format, const uint8_t *codeword, size_t codeword_le
                     size_t out_len);
 
 /*
- * sccc_frame: the physical layer frame without pilots (5; 004, 5.3).
+ * sccc_frame: the physical layer frame, without pilots or with them (5; 004, 5.3).
  *
  * Computes  the slots of a frame: 256 bits of the frame marker, 64 bits of the frame descriptor,
- *           then the labels of sixteen codewords. A marker or descriptor bit is 256 for 0 and 257
- *           for 1; a label's slot is the label.
- * Checks    1  the format is 1 to 37
- *           2  labels_len is 129,600
- *           3  each element of labels is below 2^m
- *           5  out_len is at least 129,920
- * Success   The answer is 0. The first 129,920 slots of out are the frame, and those after them as
- *           they were.
+ *           which says whether there are pilots, then the labels of sixteen codewords, and with
+ *           pilots 1 sixteen pilots behind every 540 of them. A marker or descriptor bit is 256 for
+ *           0 and 257 for 1; a label's slot is the label; a pilot's is 258.
+ *           With pilots, slot s is a pilot's exactly if s is at least 320 and (s - 320) % 556 at
+ *           least 540, and label i has the slot 320 + i / 540 * 556 + i % 540. Without the pilots'
+ *           slots the frame is the one without pilots, but for the descriptor, which has each of
+ *           its bits turned over.
+ * Checks    1   the format is 1 to 37
+ *           14  pilots is 0, for none, or 1
+ *           2   labels_len is 129,600
+ *           3   each element of labels is below 2^m
+ *           5   out_len is at least 129,920, with pilots 133,760
+ * Success   The answer is 0. The first 129,920 slots of out, with pilots the first 133,760, are the
+ *           frame, and those after them as they were.
  * Refusal   The answer is the check's number. out is as it was.
  */
-uint8_t sccc_frame(uint64_t format, const uint8_t *labels, size_t labels_len, uint16_t *out,
-                   size_t out_len);
+uint8_t sccc_frame(uint64_t format, uint64_t pilots, const uint8_t *labels, size_t labels_len,
+                   uint16_t *out, size_t out_len);
 
 /*
  * sccc_section: a codeword section of a frame's labels.

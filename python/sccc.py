@@ -39,10 +39,10 @@ else:
     Buffer = Any
 
 __all__ = [
-    "FORMATS", "SYMBOLS", "SECTIONS", "FRAME_LABELS", "FRAME_SLOTS", "SEGMENTS", "LEAST_TRANSFER_FRAME", "MOST_TRANSFER_FRAME",
-    "WAITING_MEMORY", "MEANINGS", "ScccError", "FormatInfo", "Step", "Run", "SegmentStates", "Segments", "Comparison", "Look",
-    "Slicer", "load", "format_info", "step", "run", "interleave", "encode", "encode_segments", "labels", "frame", "section",
-    "compare",
+    "FORMATS", "SYMBOLS", "SECTIONS", "FRAME_LABELS", "FRAME_SLOTS", "PILOT_FRAME_SLOTS", "HEADER_SLOTS", "SUBSECTION_LABELS",
+    "SUBSECTION_SLOTS", "PILOT", "SEGMENTS", "LEAST_TRANSFER_FRAME", "MOST_TRANSFER_FRAME", "WAITING_MEMORY", "MEANINGS",
+    "ScccError", "FormatInfo", "Step", "Run", "SegmentStates", "Segments", "Comparison", "Look", "Slicer", "load", "format_info",
+    "step", "run", "interleave", "encode", "encode_segments", "labels", "frame", "section", "compare",
 ]
 
 #: The formats are 1 to 37.
@@ -53,8 +53,16 @@ SYMBOLS = 8100
 SECTIONS = 16
 #: Labels of a frame.
 FRAME_LABELS = 129600
-#: Slots of a frame.
+#: Slots of a frame without pilots, and of one with them.
 FRAME_SLOTS = 129920
+PILOT_FRAME_SLOTS = 133760
+#: Slots of marker and descriptor, before the first label.
+HEADER_SLOTS = 320
+#: Labels that the pilots follow, and these labels with their sixteen pilots.
+SUBSECTION_LABELS = 540
+SUBSECTION_SLOTS = 556
+#: What a pilot's slot holds.
+PILOT = 258
 #: Segments of a trellis' input, at most.
 SEGMENTS = 16
 #: Octets of a transfer frame, at least and at most.
@@ -76,6 +84,7 @@ MEANINGS = {
     11: "K or more bits still wait",
     12: "a list has more than fifteen cuts",
     13: "a cut falls below the one before it, or lies beyond the input",
+    14: "the pilot choice is not 0 or 1",
 }
 
 
@@ -252,16 +261,20 @@ def labels(format: SupportsIndex, codeword: Buffer, *, out: Optional[Buffer] = N
     return result[:SYMBOLS]
 
 
-def frame(format: SupportsIndex, labels: Buffer, *, out: Optional[Buffer] = None) -> memoryview:
-    """The frame of sixteen codewords' labels, without pilots: the first 129,920 slots of out, whose elements are unsigned and of
-    16 bits (array.array of type H, numpy's uint16).
+def frame(format: SupportsIndex, pilots: SupportsIndex, labels: Buffer, *, out: Optional[Buffer] = None) -> memoryview:
+    """The frame of sixteen codewords' labels, without pilots (0) or with them (1): the first 129,920 slots of out, with pilots the
+    first 133,760. Its elements are unsigned and of 16 bits (array.array of type H, numpy's uint16).
 
-    Checks: 1; 2, there are 129,600 labels; 3, each is below 2^m; 5, out has at least 129,920 slots.
+    With pilots, slot s is a pilot's exactly if s >= 320 and (s - 320) % 556 >= 540.
+
+    Checks: 1; 14, pilots is 0 or 1; 2, there are 129,600 labels; 3, each is below 2^m; 5, out has at least so many slots.
     """
     given = _view("labels", labels)
-    slots = _view("out", array("H", bytes(2 * FRAME_SLOTS)) if out is None else out, kind="H", writable=True)
-    _pass(_loaded().sccc_frame(_number(format), *_lent(given, slots, written=1)))
-    return slots[:FRAME_SLOTS]
+    choice = _number(pilots)
+    length = PILOT_FRAME_SLOTS if choice == 1 else FRAME_SLOTS
+    slots = _view("out", array("H", bytes(2 * length)) if out is None else out, kind="H", writable=True)
+    _pass(_loaded().sccc_frame(_number(format), choice, *_lent(given, slots, written=1)))
+    return slots[:length]
 
 
 def section(labels: Buffer, place: SupportsIndex) -> memoryview:
@@ -425,7 +438,7 @@ _PROTOTYPES = {
     "sccc_encode": (ctypes.c_uint8, _NUMBER + _SLICE + _SLICE + _SLICE),
     "sccc_encode_segments": (_SegmentsAnswer, _NUMBER + _SLICE + _SLICE + _SLICE + _SLICE + _SLICE),
     "sccc_labels": (ctypes.c_uint8, _NUMBER + _SLICE + _SLICE),
-    "sccc_frame": (ctypes.c_uint8, _NUMBER + _SLICE + _SLICE),
+    "sccc_frame": (ctypes.c_uint8, _NUMBER + _NUMBER + _SLICE + _SLICE),
     "sccc_section": (_SectionRange, _SLICE + _NUMBER),
     "sccc_compare": (_Comparison, _NUMBER + _SLICE + _SLICE),
     "sccc_slicer_new": (_Slicer, _NUMBER),

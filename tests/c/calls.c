@@ -15,12 +15,14 @@ static uint8_t work[SCCC_MAX_I + SPARE];
 static uint8_t codeword[SCCC_MAX_N + SPARE];
 static uint8_t labels[SCCC_FRAME_LABELS + SPARE];
 static uint8_t others[SCCC_SYMBOLS + SPARE];
-static uint16_t slots[SCCC_FRAME_SLOTS + SPARE];
+static uint16_t slots[SCCC_PILOT_FRAME_SLOTS + SPARE];
 static uint8_t transfer[SCCC_MOST_TRANSFER_FRAME + SPARE];
 static uint8_t waiting[SCCC_WAITING_MEMORY + SPARE];
 
 static const uint64_t not_formats[] = {0, 38, 256, 257, UINT64_C(4294967297), UINT64_MAX};
 static const uint64_t not_small[] = {256, UINT64_C(4294967296), UINT64_MAX};
+static const uint64_t not_pilots[] = {
+    2, 3, 256, 257, UINT64_C(4294967296), UINT64_C(4294967297), UINT64_MAX};
 
 #define LENGTH(array) (sizeof(array) / sizeof(array)[0])
 
@@ -677,79 +679,165 @@ static void label_lists(void)
     LABELS(SCCC_BAD_ELEMENT, 1, 16200, SCCC_SYMBOLS);
 }
 
+/* The slots of a frame with this choice of pilots. */
+static size_t frame_length(uint64_t pilots)
+{
+    return pilots == SCCC_PILOTS_ON ? SCCC_PILOT_FRAME_SLOTS : SCCC_FRAME_SLOTS;
+}
+
 /* A frame call on the labels and on filled slots. */
-static void frame_gives(int line, uint8_t number, uint64_t f, size_t labels_len, size_t out_len)
+static void frame_gives(int line, uint8_t number, uint64_t f, uint64_t pilots, size_t labels_len,
+                        size_t out_len)
 {
     static uint8_t before[sizeof labels];
     uint8_t answer;
     memcpy(before, labels, sizeof labels);
     fill_slots();
-    answer = sccc_frame(f, lent(labels, labels_len), labels_len, out_len == 0 ? NULL : slots,
-                        out_len);
+    answer = sccc_frame(f, pilots, lent(labels, labels_len), labels_len,
+                        out_len == 0 ? NULL : slots, out_len);
     check(line, answer == number, "the answer of sccc_frame");
     check(line, memcmp(labels, before, sizeof labels) == 0, "the labels are unchanged");
-    check(line, slots_as_filled(number == SCCC_PASSED ? SCCC_FRAME_SLOTS : 0),
+    check(line, slots_as_filled(number == SCCC_PASSED ? frame_length(pilots) : 0),
           "out is unchanged where nothing is due");
 }
 
-#define FRAME(number, f, labels_len, out_len) frame_gives(__LINE__, number, f, labels_len, out_len)
+#define FRAME(number, f, pilots, labels_len, out_len)                                              \
+    frame_gives(__LINE__, number, f, pilots, labels_len, out_len)
+
+/* Where a label stands. */
+static size_t label_slot(uint64_t pilots, size_t i)
+{
+    return SCCC_HEADER_SLOTS + (pilots == SCCC_PILOTS_ON ? i / 540 * 556 + i % 540 : i);
+}
+
+/* Whether the header is bits that begin as the marker does, and each label stands in its slot. */
+static int header_and_labels(uint64_t pilots)
+{
+    static const unsigned marker[] = {1, 1, 1, 1, 1, 0, 1, 1, 0, 1, 0, 0, 0, 1, 0, 0};
+    size_t j;
+    for (j = 0; j < SCCC_HEADER_SLOTS; j++)
+        if (j < LENGTH(marker) ? slots[j] != 256 + marker[j] : slots[j] != 256 && slots[j] != 257)
+            return 0;
+    for (j = 0; j < SCCC_FRAME_LABELS; j++)
+        if (slots[label_slot(pilots, j)] != labels[j])
+            return 0;
+    return 1;
+}
+
+/* Whether the pilots are where they are due, and nowhere else. */
+static int pilots_placed(uint64_t pilots)
+{
+    size_t s;
+    for (s = 0; s < frame_length(pilots); s++) {
+        int due = pilots == SCCC_PILOTS_ON && s >= 320 && (s - 320) % 556 >= 540;
+        if ((slots[s] == SCCC_PILOT) != due)
+            return 0;
+    }
+    return 1;
+}
+
+/* Whether the slots but for the pilots are a frame without pilots, each of the descriptor's 64 bits
+ * turned over: 256 and 257 for each other. */
+static int turned_over(const uint16_t *bare)
+{
+    size_t s, n = 0;
+    for (s = 0; s < SCCC_PILOT_FRAME_SLOTS; s++) {
+        int descriptor = n >= 256 && n < 320;
+        if (slots[s] == SCCC_PILOT)
+            continue;
+        if (n == SCCC_FRAME_SLOTS || slots[s] != (descriptor ? 513 - bare[n] : bare[n]))
+            return 0;
+        n++;
+    }
+    return n == SCCC_FRAME_SLOTS;
+}
+
+static void frame_of_format(uint64_t f, uint64_t pilots)
+{
+    static uint16_t bare[SCCC_FRAME_SLOTS];
+    const size_t length = frame_length(pilots), last = SCCC_FRAME_LABELS - 1;
+    const uint8_t top = (uint8_t)((1u << sccc_format(f).m) - 1);
+    size_t j;
+    for (j = 0; j < sizeof labels; j++)
+        labels[j] = (uint8_t)(j * j / 7 % (top + 1u));
+    FRAME(SCCC_PASSED, f, pilots, SCCC_FRAME_LABELS, length);
+    CHECK(header_and_labels(pilots));
+    CHECK(pilots_placed(pilots));
+    if (pilots == SCCC_PILOTS_OFF)
+        memcpy(bare, slots, sizeof bare);
+    else /* the frame before was the same without */
+        CHECK(turned_over(bare));
+    labels[last] = top;
+    FRAME(SCCC_PASSED, f, pilots, SCCC_FRAME_LABELS, length + 1);
+    FRAME(SCCC_PASSED, f, pilots, SCCC_FRAME_LABELS, LENGTH(slots));
+    CHECK(slots[label_slot(pilots, last)] == top);
+    FRAME(SCCC_SHORT_OUTPUT, f, pilots, SCCC_FRAME_LABELS, length - 1);
+    if (top < 255) { /* of eight bits every byte is a label */
+        labels[last] = (uint8_t)(top + 1);
+        FRAME(SCCC_BAD_ELEMENT, f, pilots, SCCC_FRAME_LABELS, length);
+        FRAME(SCCC_BAD_ELEMENT, f, pilots, SCCC_FRAME_LABELS, 0);
+    }
+    FRAME(SCCC_BAD_LENGTH, f, pilots, SCCC_FRAME_LABELS - 1, length);
+    FRAME(SCCC_BAD_LENGTH, f, pilots, SCCC_FRAME_LABELS + 1, length);
+    FRAME(SCCC_BAD_LENGTH, f, pilots, SCCC_FRAME_LABELS + 1, 0);
+}
+
+/* Checks 1, 14, 2, 3 and 5 in turn, most of the time with those after it failing too. */
+static void frame_refused(void)
+{
+    uint64_t pilots;
+    size_t j;
+    memset(labels, 0, sizeof labels);
+    for (pilots = 0; pilots < 2; pilots++) {
+        for (j = 0; j < LENGTH(not_formats); j++) {
+            FRAME(SCCC_BAD_FORMAT, not_formats[j], pilots, SCCC_FRAME_LABELS, LENGTH(slots));
+            FRAME(SCCC_BAD_FORMAT, not_formats[j], pilots, 0, 0);
+        }
+        FRAME(SCCC_BAD_LENGTH, 1, pilots, 0, 0);
+        FRAME(SCCC_BAD_LENGTH, 1, pilots, 0, LENGTH(slots));
+        FRAME(SCCC_SHORT_OUTPUT, 1, pilots, SCCC_FRAME_LABELS, 0);
+    }
+    FRAME(SCCC_SHORT_OUTPUT, 1, SCCC_PILOTS_ON, SCCC_FRAME_LABELS, SCCC_FRAME_SLOTS);
+    FRAME(SCCC_SHORT_OUTPUT, 1, SCCC_PILOTS_ON, SCCC_FRAME_LABELS, SCCC_FRAME_SLOTS + 1);
+    FRAME(SCCC_PASSED, 1, SCCC_PILOTS_OFF, SCCC_FRAME_LABELS, SCCC_PILOT_FRAME_SLOTS - 1);
+    for (j = 0; j < LENGTH(not_pilots); j++) {
+        FRAME(SCCC_BAD_PILOTS, 1, not_pilots[j], SCCC_FRAME_LABELS, SCCC_FRAME_SLOTS);
+        FRAME(SCCC_BAD_PILOTS, 37, not_pilots[j], SCCC_FRAME_LABELS, LENGTH(slots));
+        FRAME(SCCC_BAD_PILOTS, 1, not_pilots[j], 0, 0);
+        labels[0] = 255;
+        FRAME(SCCC_BAD_FORMAT, 0, not_pilots[j], SCCC_FRAME_LABELS - 1, 0);
+        FRAME(SCCC_BAD_FORMAT, 38, not_pilots[j], SCCC_FRAME_LABELS, LENGTH(slots));
+        FRAME(SCCC_BAD_PILOTS, 1, not_pilots[j], SCCC_FRAME_LABELS - 1, 0);
+        FRAME(SCCC_BAD_PILOTS, 1, not_pilots[j], SCCC_FRAME_LABELS, 0);
+        labels[0] = 0;
+    }
+}
 
 static void frame(void)
 {
-    static const unsigned marker[] = {1, 1, 1, 1, 1, 0, 1, 1, 0, 1, 0, 0, 0, 1, 0, 0};
-    const size_t header = SCCC_FRAME_SLOTS - SCCC_FRAME_LABELS;
-    uint64_t f;
-    size_t j;
-    int bytes = 1;
-    for (f = 1; f <= SCCC_FORMATS; f++) {
-        uint8_t top = (uint8_t)((1u << sccc_format(f).m) - 1);
-        int codes = 1, same = 1;
-        for (j = 0; j < sizeof labels; j++)
-            labels[j] = (uint8_t)(j % (top + 1u));
-        FRAME(SCCC_PASSED, f, SCCC_FRAME_LABELS, SCCC_FRAME_SLOTS);
-        for (j = 0; j < header; j++)
-            codes = codes && (slots[j] == 256 || slots[j] == 257);
-        CHECK(codes);
-        for (j = 0; j < LENGTH(marker); j++)
-            CHECK(slots[j] == 256 + marker[j]);
-        for (j = 0; j < SCCC_FRAME_LABELS; j++)
-            same = same && slots[header + j] == labels[j];
-        CHECK(same);
-        labels[SCCC_FRAME_LABELS - 1] = top;
-        FRAME(SCCC_PASSED, f, SCCC_FRAME_LABELS, LENGTH(slots));
-        CHECK(slots[SCCC_FRAME_SLOTS - 1] == top);
-        if (top < 255) { /* of eight bits every byte is a label */
-            labels[SCCC_FRAME_LABELS - 1] = (uint8_t)(top + 1);
-            FRAME(SCCC_BAD_ELEMENT, f, SCCC_FRAME_LABELS, SCCC_FRAME_SLOTS);
-            FRAME(SCCC_BAD_ELEMENT, f, SCCC_FRAME_LABELS, 0);
-        }
-        FRAME(SCCC_BAD_LENGTH, f, SCCC_FRAME_LABELS - 1, SCCC_FRAME_SLOTS);
-        FRAME(SCCC_BAD_LENGTH, f, SCCC_FRAME_LABELS + 1, SCCC_FRAME_SLOTS);
+    uint64_t f, pilots;
+    CHECK(SCCC_FRAME_SLOTS == SCCC_HEADER_SLOTS + SCCC_FRAME_LABELS);
+    CHECK(SCCC_PILOT_FRAME_SLOTS == SCCC_HEADER_SLOTS + 16 * 8340);
+    CHECK(SCCC_SYMBOLS == 15 * SCCC_SUBSECTION_LABELS && 8340 == 15 * SCCC_SUBSECTION_SLOTS);
+    for (f = 1; f <= SCCC_FORMATS; f++)
+        for (pilots = 0; pilots < 2; pilots++)
+            frame_of_format(f, pilots);
+    frame_refused();
+    for (pilots = 0; pilots < 2; pilots++) {
+        memset(labels, 0, sizeof labels);
+        labels[0] = 127;
+        FRAME(SCCC_BAD_ELEMENT, 27, pilots, SCCC_FRAME_LABELS, LENGTH(slots));
+        FRAME(SCCC_PASSED, 28, pilots, SCCC_FRAME_LABELS, LENGTH(slots));
+        labels[0] = 128;
+        FRAME(SCCC_BAD_ELEMENT, 28, pilots, SCCC_FRAME_LABELS, LENGTH(slots));
+        FRAME(SCCC_PASSED, 37, pilots, SCCC_FRAME_LABELS, LENGTH(slots));
+        CHECK(slots[SCCC_HEADER_SLOTS] == 128);
+        memset(labels, 255, sizeof labels);
+        FRAME(SCCC_BAD_ELEMENT, 27, pilots, SCCC_FRAME_LABELS, LENGTH(slots));
+        FRAME(SCCC_BAD_ELEMENT, 28, pilots, SCCC_FRAME_LABELS, LENGTH(slots));
+        FRAME(SCCC_PASSED, 37, pilots, SCCC_FRAME_LABELS, LENGTH(slots));
+        CHECK(header_and_labels(pilots));
     }
-    memset(labels, 0, sizeof labels);
-    for (j = 0; j < LENGTH(not_formats); j++) {
-        FRAME(SCCC_BAD_FORMAT, not_formats[j], SCCC_FRAME_LABELS, SCCC_FRAME_SLOTS);
-        FRAME(SCCC_BAD_FORMAT, not_formats[j], 0, 0);
-    }
-    FRAME(SCCC_BAD_LENGTH, 1, 0, 0);
-    FRAME(SCCC_BAD_LENGTH, 1, 0, SCCC_FRAME_SLOTS);
-    FRAME(SCCC_SHORT_OUTPUT, 1, SCCC_FRAME_LABELS, 0);
-    FRAME(SCCC_SHORT_OUTPUT, 1, SCCC_FRAME_LABELS, SCCC_FRAME_SLOTS - 1);
-    labels[0] = 127;
-    FRAME(SCCC_BAD_ELEMENT, 27, SCCC_FRAME_LABELS, SCCC_FRAME_SLOTS);
-    FRAME(SCCC_PASSED, 28, SCCC_FRAME_LABELS, SCCC_FRAME_SLOTS);
-    labels[0] = 128;
-    FRAME(SCCC_BAD_ELEMENT, 28, SCCC_FRAME_LABELS, SCCC_FRAME_SLOTS);
-    FRAME(SCCC_PASSED, 37, SCCC_FRAME_LABELS, SCCC_FRAME_SLOTS);
-    CHECK(slots[header] == 128);
-    memset(labels, 255, sizeof labels);
-    FRAME(SCCC_BAD_ELEMENT, 27, SCCC_FRAME_LABELS, SCCC_FRAME_SLOTS);
-    FRAME(SCCC_BAD_ELEMENT, 28, SCCC_FRAME_LABELS, SCCC_FRAME_SLOTS);
-    FRAME(SCCC_PASSED, 37, SCCC_FRAME_LABELS, SCCC_FRAME_SLOTS);
-    for (j = header; j < SCCC_FRAME_SLOTS; j++)
-        bytes = bytes && slots[j] == 255;
-    CHECK(bytes);
-    FRAME(SCCC_SHORT_OUTPUT, 37, SCCC_FRAME_LABELS, SCCC_FRAME_SLOTS - 1);
 }
 
 static int section_refused(uint64_t number, size_t labels_len, uint64_t place)
@@ -1246,7 +1334,8 @@ static void *call_each(void *argument)
     sccc_encode_segments(j->f, j->block, r.k, j->work, r.i, j->once, r.n, cuts, LENGTH(cuts), cuts,
                          LENGTH(cuts));
     sccc_labels(j->f, j->once, r.n, others, SCCC_SYMBOLS);
-    sccc_frame(j->f, labels, SCCC_FRAME_LABELS, slots, SCCC_FRAME_SLOTS);
+    sccc_frame(j->f, SCCC_PILOTS_OFF, labels, SCCC_FRAME_LABELS, slots, SCCC_FRAME_SLOTS);
+    sccc_frame(j->f, SCCC_PILOTS_ON, labels, SCCC_FRAME_LABELS, slots, SCCC_PILOT_FRAME_SLOTS);
     sccc_section(labels, SCCC_FRAME_LABELS, 1);
     sccc_compare(j->f, others, SCCC_SYMBOLS, labels, SCCC_SYMBOLS);
     s = sccc_slicer_new(j->f);

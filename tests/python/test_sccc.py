@@ -4,6 +4,7 @@ import ctypes
 import mmap
 import os
 import pickle
+import re
 import shutil
 import subprocess
 import sys
@@ -25,6 +26,7 @@ import sccc  # noqa: E402
 
 NOT_FORMATS = (0, 38, 256, 257, 2**32 + 1, 2**64 - 1, 2**64, 2**64 + 1, 2**128 + 1, -1)
 NOT_SMALL = (256, 2**32, 2**64 - 1, 2**64, -1, -(2**64))
+NOT_PILOTS = (2, 3, 256, 257, 2**32, 2**32 + 1, 2**64 - 1, 2**64, 2**64 + 1, -1, -(2**64))
 
 
 def seeded(seed, length):
@@ -128,7 +130,8 @@ class Numbers(Case):
             self.assertRefused(1, sccc.encode, f, b"")
             self.assertRefused(1, sccc.encode_segments, f, b"", [1, 0], [0] * 16)
             self.assertRefused(1, sccc.labels, f, b"")
-            self.assertRefused(1, sccc.frame, f, b"")
+            self.assertRefused(1, sccc.frame, f, 0, b"")
+            self.assertRefused(1, sccc.frame, f, 2, b"")
             self.assertRefused(1, sccc.compare, f, b"", b"")
 
     def test_step(self):
@@ -212,6 +215,8 @@ class Numbers(Case):
         self.assertRaises(TypeError, sccc.format_info, 13.0)
         self.assertRaises(TypeError, sccc.step, "1", 0)
         self.assertRaises(TypeError, sccc.section, bytes(sccc.FRAME_LABELS), None)
+        for pilots in (None, 1.0, "1"):
+            self.assertRaises(TypeError, sccc.frame, 13, pilots, bytes(sccc.FRAME_LABELS))
 
 
 class Blocks(Case):
@@ -385,55 +390,102 @@ class Blocks(Case):
 
 
 class Frames(Case):
+    #: the pilot choices, and the slots of a frame with each
+    lengths = ((0, 129920), (1, 133760))
+
+    def body(self, pilots, labels):
+        """What follows the header: the labels, and with pilots sixteen 258s behind every 540 of them."""
+        starts = range(0, len(labels), 540)
+        return sum(([*labels[start : start + 540], *[258] * 16 * pilots] for start in starts), [])
+
     def test_frame(self):
-        labels = bytes(i % 16 for i in range(sccc.FRAME_LABELS))
-        slots = sccc.frame(13, labels)
-        self.assertEqual((slots.format, len(slots)), ("H", sccc.FRAME_SLOTS))
-        self.assertEqual(slots[320:].tolist(), list(labels))
-        self.assertEqual(slots[:16].tolist(), [256 + int(bit) for bit in f"{0xFB44:016b}"])
-        self.assertEqual(set(slots[:320].tolist()), {256, 257})
-        out = array("H", [999]) * (sccc.FRAME_SLOTS + 3)
-        self.assertEqual(sccc.frame(13, labels, out=out), slots)
-        self.assertEqual(out[sccc.FRAME_SLOTS :], array("H", [999] * 3))
+        labels = bytes(i * i // 7 % 16 for i in range(sccc.FRAME_LABELS))
+        for pilots, length in self.lengths:
+            slots = sccc.frame(13, pilots, labels)
+            self.assertEqual((slots.format, len(slots)), ("H", length))
+            self.assertEqual(slots[320:], array("H", self.body(pilots, labels)))
+            self.assertEqual(slots[:16].tolist(), [256 + int(bit) for bit in f"{0xFB44:016b}"])
+            self.assertEqual(set(slots[:320].tolist()), {256, 257})
+            for room in (length, length + 3, 140000):
+                out = array("H", [999]) * room
+                given = sccc.frame(13, pilots, labels, out=out)
+                self.assertIs(given.obj, out)
+                self.assertEqual(given, slots)
+                self.assertEqual(out[length:], array("H", [999]) * (room - length))
+            self.assertEqual(sccc.frame(13, bool(pilots), labels), slots)
+
+    def test_pilots(self):
+        """Where they are. Taken out, they leave the frame without pilots, with the descriptor's bits, 256 and 257, turned over."""
+        due = bytes(s >= 320 and (s - 320) % 556 >= 540 for s in range(sccc.PILOT_FRAME_SLOTS))
+        places = [320 + i // 540 * 556 + i % 540 for i in range(sccc.FRAME_LABELS)]
+        for f in range(1, sccc.FORMATS + 1):
+            m = sccc.format_info(f).m
+            labels = bytes(i * i // 7 % 2**m for i in range(sccc.FRAME_LABELS))
+            bare, slots = (sccc.frame(f, pilots, labels).tolist() for pilots in (0, 1))
+            self.assertEqual(bytes(slot == sccc.PILOT for slot in slots), due)
+            self.assertNotIn(sccc.PILOT, bare)
+            self.assertEqual(bytes(slots[place] for place in places), labels)
+            left = array("H", [slot for slot in slots if slot != sccc.PILOT])
+            bare[256:320] = [513 - slot for slot in bare[256:320]]
+            self.assertEqual(left, array("H", bare))
 
     def test_frame_refusals(self):
         good = bytes(sccc.FRAME_LABELS)
         bad = good[1:] + b"\20"
-        for number, labels, room in (
-            (2, b"", 0),
-            (2, bad[1:], 0),
-            (2, bad + b"\0", sccc.FRAME_SLOTS),
-            (3, bad, 0),
-            (3, bad, sccc.FRAME_SLOTS),
-            (5, good, 0),
-            (5, good, sccc.FRAME_SLOTS - 1),
-        ):
+        cases = [
+            (5, 1, good, sccc.FRAME_SLOTS),
+            (5, 1, good, sccc.FRAME_SLOTS + 1),
+        ]
+        for pilots, length in self.lengths:
+            cases += [
+                (2, pilots, b"", 0),
+                (2, pilots, bad[1:], 0),
+                (2, pilots, bad + b"\0", length),
+                (3, pilots, bad, 0),
+                (3, pilots, bad, length),
+                (5, pilots, good, 0),
+                (5, pilots, good, length - 1),
+            ]
+            self.assertRefused(3, sccc.frame, 13, pilots, bad)
+        for pilots in NOT_PILOTS:
+            cases += [
+                (14, pilots, b"", 0),
+                (14, pilots, bad[1:], 0),
+                (14, pilots, bad, 0),
+                (14, pilots, good, 0),
+                (14, pilots, good, sccc.FRAME_SLOTS),
+                (14, pilots, good, sccc.PILOT_FRAME_SLOTS),
+            ]
+            self.assertRefused(14, sccc.frame, 13, pilots, good)
+            self.assertRefused(1, sccc.frame, 0, pilots, bad[1:])
+        for number, pilots, labels, room in cases:
             out = array("H", [999]) * room
-            self.assertRefused(number, sccc.frame, 13, labels, out=out)
+            self.assertRefused(number, sccc.frame, 13, pilots, labels, out=out)
             self.assertEqual(out, array("H", [999]) * room)
-        self.assertRefused(3, sccc.frame, 13, bad)
 
     def test_frames_of_seven_and_eight_bits(self):
         """128 is no label of seven bits; of eight bits every byte is one."""
         labels = bytes(i % 256 for i in range(sccc.FRAME_LABELS))
-        slots = sccc.frame(37, labels)
-        self.assertEqual(slots[320:].tolist(), list(labels))
-        self.assertEqual(set(slots[:320].tolist()), {256, 257})
-        self.assertEqual(sccc.frame(28, b"\177" * sccc.FRAME_LABELS)[-1], 127)
-        self.assertEqual(sccc.frame(37, b"\377" * sccc.FRAME_LABELS)[-1], 255)
-        for label in (128, 255):
-            self.assertRefused(3, sccc.frame, 28, bytes(sccc.FRAME_LABELS - 1) + bytes([label]))
+        for pilots, _ in self.lengths:
+            slots = sccc.frame(37, pilots, labels)
+            self.assertEqual(slots[320:], array("H", self.body(pilots, labels)))
+            self.assertEqual(set(slots[:320].tolist()), {256, 257})
+            self.assertEqual(sccc.frame(28, pilots, b"\177" * sccc.FRAME_LABELS)[320], 127)
+            self.assertEqual(sccc.frame(37, pilots, b"\377" * sccc.FRAME_LABELS)[320], 255)
+            for label in (128, 255):
+                self.assertRefused(3, sccc.frame, 28, pilots, bytes(sccc.FRAME_LABELS - 1) + bytes([label]))
 
     def test_descriptors_are_the_papers(self):
-        """Document 004, 5.3.3, pilots off: seven rows, each bit twice, scrambled. The row 0000FFFF is garbled in our copy."""
+        """Document 004, 5.3.3: seven rows, each bit twice, scrambled. The row 0000FFFF is garbled in our copy."""
         rows = (0x90AC2DDD, 0x55555555, 0x33333333, 0x0F0F0F0F, 0x00FF00FF, 0x0000FFFF, 0xFFFFFFFF)
         for f in range(1, sccc.FORMATS + 1):
-            coded = 0
-            for bit, row in zip(f"{f:06b}0", rows):
-                coded ^= row * int(bit)
-            twice = int("".join(2 * bit for bit in f"{coded:032b}"), 2)
-            descriptor = [256 + int(bit) for bit in f"{twice ^ 0x719D83C953422DFA:064b}"]
-            self.assertEqual(sccc.frame(f, bytes(sccc.FRAME_LABELS))[256:320].tolist(), descriptor)
+            for pilots in (0, 1):
+                coded = 0
+                for bit, row in zip(f"{f:06b}{pilots}", rows):
+                    coded ^= row * int(bit)
+                twice = int("".join(2 * bit for bit in f"{coded:032b}"), 2)
+                descriptor = [256 + int(bit) for bit in f"{twice ^ 0x719D83C953422DFA:064b}"]
+                self.assertEqual(sccc.frame(f, pilots, bytes(sccc.FRAME_LABELS))[256:320].tolist(), descriptor)
 
     def test_section_is_the_callers_own_memory(self):
         labels = bytearray(sccc.FRAME_LABELS)
@@ -665,11 +717,11 @@ class Memory(Case):
             lambda: sccc.encode_segments(1, "0" * 5758),
             lambda: sccc.encode_segments(1, self.block, work=bytes(8640)),
             lambda: sccc.labels(1, bytes(16200), out=memoryview(bytearray(16200))[::2]),
-            lambda: sccc.frame(1, out),
-            lambda: sccc.frame(1, labels, out=bytearray(2 * sccc.FRAME_SLOTS)),
-            lambda: sccc.frame(1, labels, out=memoryview(bytes(out)).cast("H")),
-            lambda: sccc.frame(1, labels, out=(ctypes.c_uint16.__ctype_be__ * sccc.FRAME_SLOTS)()),
-            lambda: sccc.frame(1, labels, out=array("h", bytes(out))),
+            lambda: sccc.frame(1, 0, out),
+            lambda: sccc.frame(1, 0, labels, out=bytearray(2 * sccc.FRAME_SLOTS)),
+            lambda: sccc.frame(1, 0, labels, out=memoryview(bytes(out)).cast("H")),
+            lambda: sccc.frame(1, 0, labels, out=(ctypes.c_uint16.__ctype_be__ * sccc.FRAME_SLOTS)()),
+            lambda: sccc.frame(1, 0, labels, out=array("h", bytes(out))),
         ):
             self.assertRaises(TypeError, call)
 
@@ -687,7 +739,7 @@ class Memory(Case):
 
     def test_slots_are_aligned(self):
         memory = memoryview(bytearray(2 * sccc.FRAME_SLOTS + 1))
-        self.assertRaises(ValueError, sccc.frame, 1, bytes(sccc.FRAME_LABELS), out=memory[1:].cast("H"))
+        self.assertRaises(ValueError, sccc.frame, 1, 0, bytes(sccc.FRAME_LABELS), out=memory[1:].cast("H"))
 
 
 class Library(Case):
@@ -698,6 +750,15 @@ class Library(Case):
         self.assertEqual((error.number, error.meaning), (3, sccc.MEANINGS[3]))
         self.assertEqual(str(error), "check 3: " + sccc.MEANINGS[3])
         self.assertIsInstance(error, ValueError)
+
+    def test_constants_are_the_headers(self):
+        with open(os.path.join(ROOT, "include", "sccc.h")) as header:
+            defined = dict(re.findall(r"^#define SCCC_(\w+) (\d+)", header.read(), re.M))
+        names = [name for name in sccc.__all__ if isinstance(getattr(sccc, name), int)]
+        self.assertIn("PILOT_FRAME_SLOTS", names)
+        for name in names:
+            self.assertEqual(getattr(sccc, name), int(defined[name]), name)
+        self.assertIn(int(defined["BAD_PILOTS"]), sccc.MEANINGS)
 
     def elsewhere(self, code, **environment):
         """A Python of its own, with a copy of the module that has no build/ beside it."""
@@ -735,13 +796,16 @@ class Numpy(Case):
     def test_frame(self):
         labels = numpy.arange(sccc.FRAME_LABELS, dtype=numpy.uint32).reshape(16, 8100) % 16
         labels = labels.astype(numpy.uint8)
-        slots = numpy.asarray(sccc.frame(13, labels))
+        slots = numpy.asarray(sccc.frame(13, 0, labels))
         self.assertEqual(slots.dtype, numpy.uint16)
         self.assertTrue((slots[320:] == labels.ravel()).all())
         self.assertTrue((numpy.asarray(sccc.section(labels, 3)) == labels[3]).all())
         out = numpy.zeros(sccc.FRAME_SLOTS, dtype=numpy.uint16)
-        sccc.frame(13, labels, out=out)
+        sccc.frame(13, 0, labels, out=out)
         self.assertTrue((out == slots).all())
+        body = numpy.asarray(sccc.frame(13, numpy.uint8(1), labels))[320:].reshape(-1, 556)
+        self.assertTrue((body[:, :540].ravel() == labels.ravel()).all())
+        self.assertTrue((body[:, 540:] == sccc.PILOT).all())
 
     def test_other_arrays(self):
         bits = numpy.zeros(2 * 5758, dtype=numpy.uint8)
@@ -754,8 +818,8 @@ class Numpy(Case):
             lambda: sccc.encode(1, numpy.zeros(5758, dtype=numpy.int64)),
             lambda: sccc.encode(1, bits[:5758], out=read_only),
             lambda: sccc.section(numpy.asfortranarray(numpy.zeros((16, 8100), dtype=numpy.uint8)), 0),
-            lambda: sccc.frame(1, labels, out=numpy.zeros(sccc.FRAME_SLOTS, dtype=">u2")),
-            lambda: sccc.frame(1, labels, out=numpy.zeros(sccc.FRAME_SLOTS, dtype=numpy.float16)),
+            lambda: sccc.frame(1, 0, labels, out=numpy.zeros(sccc.FRAME_SLOTS, dtype=">u2")),
+            lambda: sccc.frame(1, 0, labels, out=numpy.zeros(sccc.FRAME_SLOTS, dtype=numpy.float16)),
         ):
             self.assertRaises(TypeError, call)
         self.assertRefused(2, sccc.encode, 1, numpy.zeros((16, 0), dtype=numpy.uint8))

@@ -51,6 +51,16 @@ pub ⊕*-bits : (xs ys : List ℕ) → allBits (xs ⊕* ys) ≡ true
 ⊕*-bits (x ∷ xs) [] = refl
 ⊕*-bits (x ∷ xs) (y ∷ ys) = rw (le-leb (x ⊕ y) 1 (omega arith)) (⊕*-bits xs ys)
 
+-- two lists may be added in either order
+pub ⊕*-swap : (a b c : List ℕ) → a ⊕* b ⊕* c ≡ a ⊕* c ⊕* b
+⊕*-swap [] b c = refl
+⊕*-swap (x ∷ a) [] [] = refl
+⊕*-swap (x ∷ a) [] (z ∷ c) = refl
+⊕*-swap (x ∷ a) (y ∷ b) [] = refl
+⊕*-swap (x ∷ a) (y ∷ b) (z ∷ c) =
+    let e : x ⊕ y ⊕ z ≡ x ⊕ z ⊕ y = omega arith in
+    rw (e, ⊕*-swap a b c)
+
 -- the bits of an exclusive or are the sums of the bits
 pub bit-xor : (j a b : ℕ) → bit j (bitXor a b) ≡ bit j a ⊕ bit j b
 bit-xor j a b = rw xor-shr (omega (arith, xor-add-and (a / 2 ^ j) (b / 2 ^ j)))

@@ -46,6 +46,9 @@ manyCuts = 12
 abbrev pub badCut : ℕ
 badCut = 13
 
+abbrev pub badPilots : ℕ
+badPilots = 14
+
 -- a check: whether it holds, and its number
 pub record Check : Type 0 where
   pub holds : Bool

@@ -29,3 +29,5 @@ pub const BLOCK_WAITS: u8 = 11;
 pub const CUT_COUNT: u8 = 12;
 // No cut falls below the one before it, and none is beyond the input.
 pub const CUT_PLACE: u8 = 13;
+// The pilot choice is 0 or 1.
+pub const PILOTS: u8 = 14;

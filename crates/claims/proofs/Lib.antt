@@ -3,6 +3,7 @@ pub mod Comparison
 pub mod Demand3
 pub mod Extension
 pub mod Look
+pub mod Pilots
 pub mod Readings
 pub mod Records
 pub mod Run

@@ -10,24 +10,27 @@ use Rattle.bits.specs.Checks.{_or-else_, passed}
 use Rattle.bits.specs.Legal.{allAtMost}
 use Rattle.bits.proofs.Passed.{passes}
 use Rattle.acm.specs.Formats.{isFormat, topLabel}
+use Rattle.header.specs.Descriptor.{pilotsOn}
 use Rattle.framing.specs.Frame.{sections, frameLabels, frameLength}
 use Rattle.framing.specs.Calls.{frameChecks, frameNumber, sectionChecks, sectionNumber}
 
-pub record FramePassed (f : ℕ) (labels : List ℕ) (room : ℕ) : Type 0 where
+pub record FramePassed (f pilots : ℕ) (labels : List ℕ) (room : ℕ) : Type 0 where
   pub known : isFormat f ≡ true
+  pub choice : pilots ≤ pilotsOn
   pub long : length labels ≡ frameLabels
   pub legal : allAtMost (topLabel f) labels ≡ true
-  pub fits : frameLength ≤ room
+  pub fits : frameLength pilots ≤ room
 
-pub frame-passed : (f : ℕ) (labels : List ℕ) (room : ℕ) → frameNumber f labels room ≡ passed → FramePassed f labels room
+pub frame-passed : (f pilots : ℕ) (labels : List ℕ) (room : ℕ) → frameNumber f pilots labels room ≡ passed → FramePassed f pilots labels room
 unfolding frameNumber
-frame-passed f labels room e =
-    let part = passes (frameChecks f labels room) (true or-else passed) refl e in
+frame-passed f pilots labels room e =
+    let part = passes (frameChecks f pilots labels room) (true or-else passed) refl e in
     record {
       known = part 0 (lit< tt);
-      long = eqb-true _ _ (part 1 (lit< tt));
-      legal = part 2 (lit< tt);
-      fits = leb-true _ _ (part 3 (lit< tt));
+      choice = leb-true _ _ (part 1 (lit< tt));
+      long = eqb-true _ _ (part 2 (lit< tt));
+      legal = part 3 (lit< tt);
+      fits = leb-true _ _ (part 4 (lit< tt));
     }
 
 pub record SectionPassed (labels : List ℕ) (place : ℕ) : Type 0 where

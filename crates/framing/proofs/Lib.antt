@@ -1,3 +1,4 @@
 pub mod Checked
 pub mod Frames
+pub mod Places
 pub mod Sections

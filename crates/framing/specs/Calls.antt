@@ -3,28 +3,30 @@ use mathlib.Core.List.{List, [], _∷_, _++_}
 use Prim.Native.Nat.{ℕ}
 use lib.Dec.{leb, ltb, eqb}
 use lib.ListN.{length, drop}
-use Rattle.bits.specs.Checks.{Check, _or-else_, firstFailed, passed, badFormat, badLength, badElement, shortOutput, badPlace}
+use Rattle.bits.specs.Checks.{Check, _or-else_, firstFailed, passed, badFormat, badLength, badElement, shortOutput, badPlace, badPilots}
 use Rattle.bits.specs.Choice.{if_then_else_}
 use Rattle.bits.specs.Legal.{allAtMost}
 use Rattle.acm.specs.Formats.{isFormat, topLabel}
+use Rattle.header.specs.Descriptor.{pilotsOn}
 use Rattle.framing.specs.Frame.{sections, frameLabels, frameLength, frame, section}
 
 -- frame: the labels are lent, and an output of so many slots
-abbrev pub frameChecks : ℕ → List ℕ → ℕ → List Check
-frameChecks f labels room =
+abbrev pub frameChecks : ℕ → ℕ → List ℕ → ℕ → List Check
+frameChecks f pilots labels room =
     isFormat f or-else badFormat
+    ∷ leb pilots pilotsOn or-else badPilots
     ∷ eqb (length labels) frameLabels or-else badLength
     ∷ allAtMost (topLabel f) labels or-else badElement
-    ∷ leb frameLength room or-else shortOutput
+    ∷ leb (frameLength pilots) room or-else shortOutput
     ∷ []
 
-unfoldable pub frameNumber : ℕ → List ℕ → ℕ → ℕ
-frameNumber f labels room = firstFailed (frameChecks f labels room)
+unfoldable pub frameNumber : ℕ → ℕ → List ℕ → ℕ → ℕ
+frameNumber f pilots labels room = firstFailed (frameChecks f pilots labels room)
 
-unfoldable pub frameOutput : ℕ → List ℕ → List ℕ → List ℕ
-frameOutput f labels out =
-    if eqb (frameNumber f labels (length out)) passed
-    then frame f labels ++ drop frameLength out
+unfoldable pub frameOutput : ℕ → ℕ → List ℕ → List ℕ → List ℕ
+frameOutput f pilots labels out =
+    if eqb (frameNumber f pilots labels (length out)) passed
+    then frame f pilots labels ++ drop (frameLength pilots) out
     else out
 
 -- section: any byte is a label, since no format is given

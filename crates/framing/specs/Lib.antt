@@ -1,2 +1,3 @@
 pub mod Frame
 pub mod Calls
+pub mod Places

@@ -10,13 +10,14 @@ use lib.Bits.{bitXor}
 use lib.Dec.{eqb}
 use lib.ListN.{length, getD, drop, replicate}
 use Rattle.bits.specs.Choice.{if_then_else_}
+use Rattle.bits.specs.Legal.{allBits}
 use Rattle.bits.specs.Sum.{_⊕*_}
 use Rattle.bits.specs.Words.{bitsOf}
 use Rattle.bits.proofs.Lists.{drop-next}
-use Rattle.bits.proofs.Sums.{⊕*-length}
+use Rattle.bits.proofs.Sums.{⊕*-bits, ⊕*-length, ⊕*-swap}
 use Rattle.bits.proofs.Table.{every, left-true, right-true}
 use Rattle.bits.proofs.Words.{bits-next, bits-xor}
-use Rattle.header.specs.Descriptor.{G, addRows, codeLength, coded, descriptor, descriptorLength, information, scrambling, twice}
+use Rattle.header.specs.Descriptor.{G, addRows, codeLength, coded, descriptor, descriptorLength, information, pilotsOff, pilotsOn, scrambling, twice}
 use Rattle.header.specs.Words.{wordLength}
 
 -- the bits of each row
@@ -119,7 +120,19 @@ descriptor-length f pilots =
     let many : length (twice ys) ≡ descriptorLength = omega (arith, length-twice ys, length-rows codeLength 0 (replicate codeLength 0) (information f pilots) G refl refl) in
     ⊕*-length (twice ys) scrambling many ∙ many
 
+pub descriptor-legal : (f pilots : ℕ) → allBits (descriptor f pilots) ≡ true
+unfolding descriptor
+descriptor-legal f pilots = ⊕*-bits (twice (coded (information f pilots))) scrambling
+
 -- up to 31, b0 is 0 and the first row is left out: what is added are the six rows of 000
 pub six-rows : (f pilots : ℕ) → f < 32 → coded (information f pilots) ≡ addRows (replicate codeLength 0) (drop 1 (information f pilots)) (drop 1 G)
 unfolding G
 six-rows f pilots h = let z : f / 32 % 2 ≡ 0 = omega arith in rw z
+
+-- the row of b6 is all ones: pilots turn every bit of the descriptor over
+pub pilots-turn : (f : ℕ) → descriptor f pilotsOn ≡ descriptor f pilotsOff ⊕* replicate descriptorLength 1
+unfolding descriptor G
+pilots-turn f =
+    let ys = coded (information f pilotsOff) in
+    let ones : List ℕ = replicate codeLength 1 in
+    ap (λ (y : List ℕ). y ⊕* scrambling) (twice-sum ys ones) ∙ ⊕*-swap (twice ys) (twice ones) scrambling

@@ -13,10 +13,14 @@ codeLength = 32
 abbrev pub descriptorLength : ℕ
 descriptorLength = 2 * codeLength
 
+-- the pilot choice, which is also the bit for pilots
 abbrev pub pilotsOff : ℕ
 pilotsOff = 0
 
--- b0 to b6 (004, table 5-4): the six bits of the format number, the most significant first, and the bit for pilots, 1 for on
+abbrev pub pilotsOn : ℕ
+pilotsOn = 1
+
+-- b0 to b6 (004, table 5-4): the six bits of the format number, the most significant first, and the bit for pilots
 abbrev pub information : ℕ → ℕ → List ℕ
 information f pilots = f / 32 % 2 ∷ f / 16 % 2 ∷ f / 8 % 2 ∷ f / 4 % 2 ∷ f / 2 % 2 ∷ f % 2 ∷ pilots ∷ []
 

@@ -4,7 +4,7 @@ use Prim.Native.Nat.{ℕ, _+_}
 use lib.Dec.{eqb}
 use Rattle.bits.specs.Choice.{if_then_else_}
 use Rattle.header.specs.Marker.{markerLength, marker}
-use Rattle.header.specs.Descriptor.{descriptorLength, pilotsOff, descriptor}
+use Rattle.header.specs.Descriptor.{descriptorLength, descriptor}
 
 abbrev pub headerLength : ℕ
 headerLength = markerLength + descriptorLength
@@ -22,5 +22,5 @@ headerCode bit = if eqb bit 0 then headerZero else headerOne
 abbrev pub headerSlots : List ℕ → List ℕ
 headerSlots bits = map headerCode bits
 
-unfoldable pub header : ℕ → List ℕ
-header f = headerSlots (marker ++ descriptor f pilotsOff)
+unfoldable pub header : ℕ → ℕ → List ℕ
+header f pilots = headerSlots (marker ++ descriptor f pilots)

@@ -7,7 +7,7 @@ ghost use lib.ListN.{length};
 ghost use lib.Seq.{sets};
 ghost use Rattle.bits.specs.Words.{bitsOf, unpacked};
 ghost use Rattle.acm.specs.Formats.{isFormat};
-ghost use Rattle.header.specs.Descriptor.{addRows, descriptor, pilotsOff};
+ghost use Rattle.header.specs.Descriptor.{addRows, descriptor, pilotsOn};
 ghost use Rattle.header.specs.Header.{header, headerCode, headerLength, headerSlots};
 ghost use Rattle.header.specs.Words.{wordLength};
 
@@ -47,24 +47,21 @@ const ROWS: [u64; 7] = [
 // The sequence that scrambles the descriptor (5.2.1).
 const SCRAMBLING: u64 = 0x719D83C953422DFA;
 
-// b6, the bit for pilots.
-const PILOTS_OFF: u64 = 0;
-
-// The header of a format without pilots, to the front of out.
-pub fn put(format: u64, out: &mut [u16])
-    requires { ⌜ (isFormat format ≡ true) × (headerLength ≤ length (now out)) ⌝ }
-    ensures { λ _. ⌜ now (out .exit) ≡ sets (now (out .entry)) 0 (header format) ⌝ }
+// The header of a format and a pilot choice, to the front of out.
+pub fn put(format: u64, pilots: u64, out: &mut [u16])
+    requires { ⌜ (isFormat format ≡ true) × (pilots ≤ pilotsOn) × (headerLength ≤ length (now out)) ⌝ }
+    ensures { λ _. ⌜ now (out .exit) ≡ sets (now (out .entry)) 0 (header format pilots) ⌝ }
 {
     put_words(&MARKER, out);
-    put_word(descriptor_word(format), out, MARKER_LENGTH);
+    put_word(descriptor_word(format, pilots), out, MARKER_LENGTH);
 }
 
-// The frame descriptor of a format without pilots.
-fn descriptor_word(format: u64) -> u64
-    requires { ⌜ isFormat format ≡ true ⌝ }
-    ensures { λ r. ⌜ bitsOf wordLength r ≡ descriptor format pilotsOff ⌝ }
+// The frame descriptor: the pilot choice is b6, behind the format's bits.
+fn descriptor_word(format: u64, pilots: u64) -> u64
+    requires { ⌜ (isFormat format ≡ true) × (pilots ≤ pilotsOn) ⌝ }
+    ensures { λ r. ⌜ bitsOf wordLength r ≡ descriptor format pilots ⌝ }
 {
-    add_rows(2 * format + PILOTS_OFF, &ROWS) ^ SCRAMBLING
+    add_rows(2 * format + pilots, &ROWS) ^ SCRAMBLING
 }
 
 // The sum of the rows whose bits are 1: there is a bit for each row, the first weighs most.

@@ -7,6 +7,8 @@ use crate::row::Row;
 use acm::SYMBOLS;
 use compare::Comparison;
 use framing::FRAME_LENGTH;
+use framing::PILOT_FRAME_LENGTH;
+use framing::PILOTS_ON;
 use testkit::UNTOUCHED;
 use testkit::bytes;
 use testkit::front;
@@ -18,12 +20,22 @@ pub(crate) fn frame(row: Row) {
     let mut slots = testkit::slots(UNTOUCHED);
     set_last(&mut labels, row.d, row.e);
     let number = framing::frame(
+        row.b as u64,
         row.c as u64,
         front(&labels, row.d),
         front_slots(&mut slots, row.f),
     );
     print_field(number as u64);
-    print_changed_slots(&slots, FRAME_LENGTH);
+    print_changed_slots(&slots, length(row.c as u64));
+}
+
+// The slots of a frame with a pilot choice.
+fn length(pilots: u64) -> usize {
+    if pilots == PILOTS_ON {
+        PILOT_FRAME_LENGTH
+    } else {
+        FRAME_LENGTH
+    }
 }
 
 // Labels 0 but for one place. The row has the number, the length of the part, and its first and last label.

@@ -169,15 +169,17 @@ pub extern "C" fn sccc_labels(format: u64, codeword: &[u8], out: &mut [u8]) -> u
     encoder::labels(format, codeword, out)
 }
 
-// The frame of sixteen codewords' labels, without pilots: marker and descriptor bits as 256 for 0 and 257 for 1, then the labels.
-// Checks: 1; 2, there are 129,600 labels; 3, each is below 2^m; 5, the output has at least 129,920 slots.
-// Afterwards the first 129,920 slots of out are the frame and the others as they were; on refusal all are.
+// The frame of sixteen codewords' labels: marker and descriptor bits as 256 for 0 and 257 for 1, then the labels, and with pilots (choice 1)
+// behind every 540 of them sixteen times 258.
+// Checks: 1; 14, the choice is 0 or 1; 2, there are 129,600 labels; 3, each is below 2^m; 5, the output has at least 129,920 slots, with pilots
+// 133,760.
+// Afterwards so many slots of out, from the first, are the frame and the others as they were; on refusal all are.
 #[no_mangle]
-pub extern "C" fn sccc_frame(format: u64, labels: &[u8], out: &mut [u16]) -> u8
-    ensures number { λ r. ⌜ r ≡ frameNumber format (now (labels .entry)) (length (now (out .entry))) ⌝ }
-    ensures output { λ _. ⌜ now (out .exit) ≡ frameOutput format (now (labels .entry)) (now (out .entry)) ⌝ }
+pub extern "C" fn sccc_frame(format: u64, pilots: u64, labels: &[u8], out: &mut [u16]) -> u8
+    ensures number { λ r. ⌜ r ≡ frameNumber format pilots (now (labels .entry)) (length (now (out .entry))) ⌝ }
+    ensures output { λ _. ⌜ now (out .exit) ≡ frameOutput format pilots (now (labels .entry)) (now (out .entry)) ⌝ }
 {
-    framing::frame(format, labels, out)
+    framing::frame(format, pilots, labels, out)
 }
 
 // Where a codeword section stands in the caller's labels.

@@ -6,18 +6,18 @@ ghost use lib.ListN.{length};
 use libc::STDOUT_FILENO;
 
 // Elements of a buffer: more than any list that a call takes.
-const ROOM: usize = 131072;
+const ROOM: usize = 135168;
 
 // A buffer of one value. The contract gives its length alone: lending the array as a slice needs no more, and proofs are slow where they can
 // see so long a list.
 pub fn bytes(value: usize) -> [u8; ROOM]
-    ensures { λ r. ⌜ 131072 ≡ length r ⌝ }
+    ensures { λ r. ⌜ 135168 ≡ length r ⌝ }
 {
     [(value % 256) as u8; ROOM]
 }
 
 pub fn slots(value: usize) -> [u16; ROOM]
-    ensures { λ r. ⌜ 131072 ≡ length r ⌝ }
+    ensures { λ r. ⌜ 135168 ≡ length r ⌝ }
 {
     [(value % 65536) as u16; ROOM]
 }

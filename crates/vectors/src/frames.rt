@@ -1,6 +1,10 @@
-// For every ACM format, the digests of the frame marker, the frame descriptor, the labels of sixteen seeded blocks, and their frame.
+// For every ACM format, without pilots and with them, the digests of the frame marker, the frame descriptor, the labels of sixteen seeded
+// blocks, and their frame.
 use framing::FRAME_LABELS;
 use framing::FRAME_LENGTH;
+use framing::PILOT_FRAME_LENGTH;
+use framing::PILOTS_OFF;
+use framing::PILOTS_ON;
 use libc::STDOUT_FILENO;
 use testkit::bytes;
 use testkit::front;
@@ -19,32 +23,47 @@ const LAST_BIT: u16 = 1;
 const WHOLE: u16 = 65535;
 
 pub(crate) fn run() {
-    io::write_all(STDOUT_FILENO, b"format,marker,descriptor,labels,frame\n");
+    io::write_all(
+        STDOUT_FILENO,
+        b"format,pilots,marker,descriptor,labels,frame\n",
+    );
     let mut format: u64 = 1;
     while format <= acm::LAST {
-        print_frame(format);
+        print_frames(format);
         format += 1;
     }
 }
 
-fn print_frame(format: u64) {
+fn print_frames(format: u64) {
     let mut labels = bytes(0);
+    put_sections(format, front_mut(&mut labels, FRAME_LABELS));
+    print_frame(
+        format,
+        PILOTS_OFF,
+        front(&labels, FRAME_LABELS),
+        FRAME_LENGTH,
+    );
+    print_frame(
+        format,
+        PILOTS_ON,
+        front(&labels, FRAME_LABELS),
+        PILOT_FRAME_LENGTH,
+    );
+}
+
+fn print_frame(format: u64, pilots: u64, labels: &[u8], length: usize) {
     let mut slots = testkit::slots(0);
-    make_frame(format, front_mut(&mut labels, FRAME_LABELS), &mut slots);
-}
-
-fn make_frame(format: u64, labels: &mut [u8], slots: &mut [u16]) {
-    put_sections(format, labels);
-    framing::frame(format, labels, slots);
+    framing::frame(format, pilots, labels, &mut slots);
     io::print_decimal(STDOUT_FILENO, format);
-    print_digests(labels, slots);
+    print_field(pilots);
+    print_digests(labels, &slots, length);
 }
 
-fn print_digests(labels: &[u8], slots: &[u16]) {
+fn print_digests(labels: &[u8], slots: &[u16], length: usize) {
     print_field(digest_slots(slots, 0, MARKER, LAST_BIT));
     print_field(digest_slots(slots, MARKER, HEADER, LAST_BIT));
     testkit::print_digest(labels, FRAME_LABELS);
-    print_field(digest_slots(slots, 0, FRAME_LENGTH, WHOLE));
+    print_field(digest_slots(slots, 0, length, WHOLE));
     testkit::end_row();
 }
 

@@ -161,6 +161,7 @@ extern "C" {
     ) -> u8;
     fn sccc_frame(
         format: u64,
+        pilots: u64,
         labels: *const u8,
         labels_len: usize,
         out: *mut u16,
@@ -291,11 +292,12 @@ pub fn labels(format: u64, codeword: &[u8], out: &mut [u8]) -> u8 {
     }
 }
 
-pub fn frame(format: u64, labels: &[u8], out: &mut [u16]) -> u8 {
+pub fn frame(format: u64, pilots: u64, labels: &[u8], out: &mut [u16]) -> u8 {
     // SAFETY: as in encode.
     unsafe {
         sccc_frame(
             format,
+            pilots,
             pointer(labels),
             labels.len(),
             pointer_mut(out),

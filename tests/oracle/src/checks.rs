@@ -2,7 +2,7 @@
 //! door; document 02 for the calls since). Each function gives the number of the
 //! first check that fails, 0 if none does.
 
-use crate::framing::{FRAME_LABELS, FRAME_SLOTS, SECTIONS};
+use crate::framing::{frame_slots, FRAME_LABELS, SECTIONS};
 use crate::segments::MOST_CUTS;
 use crate::slicer::{Slicer, MEMORY};
 use crate::tables::{self, SECTION};
@@ -36,6 +36,8 @@ pub const BLOCK_WAITS: u64 = 11;
 pub const CUT_COUNT: u64 = 12;
 /// A cut falls, or lies beyond the input.
 pub const CUT_PLACE: u64 = 13;
+/// The pilot choice is not 0 or 1.
+pub const PILOTS: u64 = 14;
 
 /// The number of the first check that does not hold.
 fn first_failed(checks: &[(u64, bool)]) -> u64 {
@@ -108,15 +110,19 @@ pub fn labels(format: u64, codeword: &[u8], out_len: usize) -> u64 {
     ])
 }
 
-/// Building a frame from the labels of sixteen codeword sections.
-pub fn frame(format: u64, labels: &[u8], out_len: usize) -> u64 {
+/// Building a frame from the labels of sixteen codeword sections, with room for
+/// the pilots if they are on.
+pub fn frame(format: u64, pilots: u64, labels: &[u8], out_len: usize) -> u64 {
     let Some(f) = tables::format(format) else {
         return FORMAT;
+    };
+    let Some(slots) = frame_slots(pilots) else {
+        return PILOTS;
     };
     first_failed(&[
         (LENGTH, labels.len() == FRAME_LABELS),
         (ELEMENT, all_labels(labels, f.m)),
-        (OUTPUT, out_len >= FRAME_SLOTS),
+        (OUTPUT, out_len >= slots),
     ])
 }
 
@@ -248,7 +254,7 @@ mod tests {
         assert_eq!(encode(38, &[0; K], I, N), FORMAT);
         assert_eq!(encode(257, &[0; K], I, N), FORMAT);
         assert_eq!(labels(0, &[2], 0), FORMAT);
-        assert_eq!(frame(38, &[64], 0), FORMAT);
+        assert_eq!(frame(38, 2, &[64], 0), FORMAT);
         assert_eq!(compare(0, &[], &[9]), FORMAT);
         assert_eq!(interleave(0, u64::MAX), FORMAT);
     }
@@ -343,14 +349,25 @@ mod tests {
     }
 
     #[test]
-    fn frame_asks_1_2_3_5() {
+    fn frame_asks_1_14_2_3_5() {
         let threes = vec![3; FRAME_LABELS];
         let fours = vec![4; FRAME_LABELS];
-        assert_eq!(frame(1, &threes[1..], FRAME_SLOTS), LENGTH);
-        assert_eq!(frame(1, &fours, 0), ELEMENT);
-        assert_eq!(frame(1, &threes, FRAME_SLOTS - 1), OUTPUT);
-        assert_eq!(frame(1, &threes, FRAME_SLOTS), PASSED);
-        assert_eq!(frame(7, &fours, FRAME_SLOTS), PASSED);
+        for choice in [2, 3, 256, 257, 1 << 32, 1 << 32 | 1, u64::MAX] {
+            assert_eq!(frame(0, choice, &fours[1..], 0), FORMAT);
+            assert_eq!(frame(1, choice, &fours[1..], 0), PILOTS);
+            assert_eq!(frame(1, choice, &threes, 133_760), PILOTS);
+        }
+        for (choice, slots) in [(0, 129_920), (1, 133_760)] {
+            assert_eq!(frame(38, choice, &threes, slots), FORMAT);
+            assert_eq!(frame(1, choice, &fours[1..], 0), LENGTH);
+            assert_eq!(frame(1, choice, &threes[1..], slots), LENGTH);
+            assert_eq!(frame(1, choice, &fours, 0), ELEMENT);
+            assert_eq!(frame(1, choice, &threes, slots - 1), OUTPUT);
+            assert_eq!(frame(1, choice, &threes, slots), PASSED);
+            assert_eq!(frame(7, choice, &fours, slots + 1), PASSED);
+        }
+        assert_eq!(frame(1, 1, &threes, 129_920), OUTPUT);
+        assert_eq!(frame(1, 0, &threes, 133_759), PASSED);
     }
 
     /// Seven bits end at 127; of eight bits every byte is a label.
@@ -358,8 +375,8 @@ mod tests {
     fn labels_of_seven_and_eight_bits() {
         for (label, of_seven) in [(127, PASSED), (128, ELEMENT), (255, ELEMENT)] {
             let all = vec![label; FRAME_LABELS];
-            assert_eq!(frame(28, &all, FRAME_SLOTS), of_seven);
-            assert_eq!(frame(37, &all, FRAME_SLOTS), PASSED);
+            assert_eq!(frame(28, 0, &all, 129_920), of_seven);
+            assert_eq!(frame(37, 0, &all, 129_920), PASSED);
             let few = &all[..SECTION];
             assert_eq!(compare(28, few, few), of_seven);
             assert_eq!(compare(37, few, few), PASSED);

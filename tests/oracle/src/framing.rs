@@ -1,5 +1,5 @@
-//! Section 5, and 5.3.3 of document 004: frame marker, frame descriptor, frame and
-//! codeword section.
+//! Section 5, and 5.3.3 of document 004: frame marker, frame descriptor, pilots,
+//! frame and codeword section.
 
 use crate::tables::{Format, SECTION};
 
@@ -18,8 +18,34 @@ pub const FRAME_LABELS: usize = SECTIONS * SECTION;
 /// Slots of a frame without pilots.
 pub const FRAME_SLOTS: usize = MARKER + DESCRIPTOR + FRAME_LABELS;
 
+/// Table 5-2 as printed.
+pub const TABLE_5_2: &str = "\
+Codeword Section Length 8100 symbols
+Number of Codeword Section per frame 16 Sections
+Number of sub-sections 15 sub-sections
+Number of Data Symbols per sub-section 540 Symbols
+Number pilots per subsection 16 Symbols
+Total Number of pilots per section 240 Symbols
+Total Section length including pilot symbols 8340 Symbols";
+
+/// Table 5-2: sub-sections of a codeword section, and the data symbols and the
+/// pilots of each.
+pub const SUBSECTIONS: usize = 15;
+pub const SUBSECTION_DATA: usize = 540;
+pub const SUBSECTION_PILOTS: usize = 16;
+
+/// Pilots of a codeword section, and its slots with them.
+pub const SECTION_PILOTS: usize = SUBSECTIONS * SUBSECTION_PILOTS;
+pub const PILOT_SECTION: usize = SECTION + SECTION_PILOTS;
+
+/// Slots of a frame with pilots.
+pub const PILOT_FRAME_SLOTS: usize = MARKER + DESCRIPTOR + SECTIONS * PILOT_SECTION;
+
 /// Document 01: a header bit is 256 for 0 and 257 for 1.
 const HEADER_SLOT: u16 = 256;
+
+/// Document 02, L9: a pilot is 258.
+pub const PILOT: u16 = 258;
 
 /// 5.1: the first 40 bits of the frame marker as printed.
 pub const PRINTED_MARKER: &str = "1111101101000100000111110001110110111101";
@@ -157,13 +183,35 @@ pub fn descriptor_of_six_rows(format: &Format, pilots: u8) -> Vec<u8> {
     repeated_and_scrambled(&coded(&b, &G.map(digits)))
 }
 
-/// Figure 5-1, pilots off: header bits, then the labels of sixteen codeword
-/// sections, in slots of 16 bits.
-pub fn frame(format: &Format, labels: &[u8]) -> Vec<u16> {
-    let header = [marker(), descriptor(format, 0)].concat();
+/// Slots of a frame, pilots off (0) or on (1); there is no other choice.
+pub fn frame_slots(pilots: u64) -> Option<usize> {
+    match pilots {
+        0 => Some(FRAME_SLOTS),
+        1 => Some(PILOT_FRAME_SLOTS),
+        _ => None,
+    }
+}
+
+/// Figure 5-1: header bits, then sixteen codeword sections, in slots of 16 bits.
+pub fn frame(format: &Format, pilots: u8, labels: &[u8]) -> Vec<u16> {
+    let header = [marker(), descriptor(format, pilots)].concat();
     let header_slots = header.iter().map(|&bit| HEADER_SLOT + u16::from(bit));
-    let label_slots = labels.iter().map(|&label| u16::from(label));
-    header_slots.chain(label_slots).collect()
+    let sections = labels.chunks(SECTION);
+    let section_slots = sections.flat_map(|section| section_slots(pilots, section));
+    header_slots.chain(section_slots).collect()
+}
+
+/// 5.3: a codeword section's labels, pilots off, or its sub-sections. Figure 5-5,
+/// which shows where a sub-section has its pilots, is missing from the copy of the
+/// standard; document 02, L9, says that they follow the labels.
+fn section_slots(pilots: u8, section: &[u8]) -> Vec<u16> {
+    let data: Vec<u16> = section.iter().map(|&label| label.into()).collect();
+    if pilots == 0 {
+        return data;
+    }
+    (data.chunks(SUBSECTION_DATA))
+        .flat_map(|data| [data, &[PILOT; SUBSECTION_PILOTS]].concat())
+        .collect()
 }
 
 /// The codeword section at a place from 0 to 15 (document 01: a part).
@@ -177,6 +225,7 @@ pub fn section(labels: &[u8], place: usize) -> &[u8] {
 #[cfg(test)]
 mod tests {
     use super::*;
+    use crate::digest::seeded_frame;
     use crate::tables;
 
     #[test]
@@ -189,20 +238,73 @@ mod tests {
     #[test]
     fn frame_has_129920_slots() {
         let format = tables::format(27).unwrap();
-        let slots = frame(&format, &vec![63; FRAME_LABELS]);
+        let slots = frame(&format, 0, &vec![63; FRAME_LABELS]);
         assert_eq!(slots.len(), 129_920);
         assert_eq!(slots[..6], [257, 257, 257, 257, 257, 256]);
         assert!(slots[..320].iter().all(|&slot| slot == 256 || slot == 257));
         assert!(slots[320..].iter().all(|&slot| slot == 63));
     }
 
-    /// b6 and the last row: pilots turn every bit over.
     #[test]
-    fn pilots_turn_the_descriptor_over() {
-        for format in [13, 37].map(|number| tables::format(number).unwrap()) {
-            let off = descriptor(&format, 0);
-            let on = descriptor(&format, 1);
-            assert!(off.iter().zip(&on).all(|(off, on)| off + on == 1));
+    fn frame_with_pilots_has_133760_slots() {
+        assert_eq!(SUBSECTIONS * SUBSECTION_DATA, 8100);
+        assert_eq!([SECTION_PILOTS, PILOT_SECTION], [240, 8340]);
+        assert_eq!([0, 1].map(frame_slots), [Some(129_920), Some(133_760)]);
+        for choice in [2, 256, 1 << 32, u64::MAX] {
+            assert_eq!(frame_slots(choice), None);
+        }
+        let format = tables::format(27).unwrap();
+        let slots = frame(&format, 1, &vec![63; FRAME_LABELS]);
+        assert_eq!(slots.len(), 133_760);
+        assert_eq!(slots.iter().filter(|&&slot| slot == 258).count(), 3840);
+    }
+
+    /// A frame's labels, from a seed.
+    fn some_labels(format: &Format) -> Vec<u8> {
+        let bytes = seeded_frame(format.number, FRAME_LABELS);
+        bytes.iter().map(|byte| byte >> (8 - format.m)).collect()
+    }
+
+    /// The places as a receiver has them, counted through the whole frame.
+    #[test]
+    fn sixteen_pilots_follow_every_540_labels() {
+        let is_pilot = |s: usize| s >= 320 && (s - 320) % 556 >= 540;
+        let place = |i: usize| 320 + i / 540 * 556 + i % 540;
+        for format in tables::formats() {
+            let number = format.number;
+            let labels = some_labels(format);
+            let [off, on] = [0, 1].map(|pilots| frame(format, pilots, &labels));
+            assert!(
+                (0..133_760).all(|s| (on[s] == 258) == is_pilot(s)),
+                "{number}"
+            );
+            assert!(
+                (0..129_600).all(|i| on[place(i)] == labels[i].into()),
+                "{number}"
+            );
+            assert!(
+                (0..129_600).all(|i| off[320 + i] == labels[i].into()),
+                "{number}"
+            );
+            assert!(!off.contains(&258), "{number}");
+        }
+    }
+
+    /// The descriptor's slots are 256 and 257, so two that differ add up to 513.
+    #[test]
+    fn without_its_pilots_it_is_the_frame_without_pilots_but_for_the_descriptor() {
+        for format in tables::formats() {
+            let labels = some_labels(format);
+            let [off, mut on] = [0, 1].map(|pilots| frame(format, pilots, &labels));
+            on.retain(|&slot| slot != 258);
+            assert_eq!(on.len(), off.len());
+            assert_eq!(on[..256], off[..256]);
+            assert!(
+                (256..320).all(|s| on[s] + off[s] == 513),
+                "{}",
+                format.number
+            );
+            assert_eq!(on[320..], off[320..]);
         }
     }
 
@@ -229,7 +331,7 @@ mod tests {
     #[test]
     fn a_label_slot_holds_up_to_255() {
         let format = tables::format(37).unwrap();
-        let slots = frame(&format, &vec![255; FRAME_LABELS]);
+        let slots = frame(&format, 0, &vec![255; FRAME_LABELS]);
         assert!(slots[..320].iter().all(|&slot| slot == 256 || slot == 257));
         assert!(slots[320..].iter().all(|&slot| slot == 255));
     }

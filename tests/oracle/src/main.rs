@@ -22,8 +22,9 @@ const USAGE: &str = "usage: oracle [--annex-c PATH] COMMAND
   self-check           the oracle against outside numbers, one line each
   formats              the ACM formats, as document 01 lists them
   vectors              digests of six encoded blocks for each format
-  frames               digests of one frame for each format
-  streams              the same of a stream of transfer frames, seven formats
+  frames               digests of one frame for each format, pilots off and on
+  streams              the same of a stream of transfer frames, seven formats,
+                       pilots off
   changes              the same after a frame of format 13
   looks                what a look says at that change
   runs                 where a run over a block is halfway, and its digest
@@ -68,9 +69,9 @@ fn command(arguments: &[String]) -> Result<(String, ExitCode), String> {
         }
         ["formats"] => tables::listing(),
         ["vectors"] => vectors(&annex_c()?),
-        ["frames"] => frames(&annex_c()?, tables::formats(), frame_blocks),
-        ["streams"] => frames(&annex_c()?, &of_each_modulation(), stream_blocks),
-        ["changes"] => frames(&annex_c()?, &of_each_modulation(), changed_blocks),
+        ["frames"] => frames(&annex_c()?, tables::formats(), &[0, 1], frame_blocks),
+        ["streams"] => frames(&annex_c()?, &of_each_modulation(), &[0], stream_blocks),
+        ["changes"] => frames(&annex_c()?, &of_each_modulation(), &[0], changed_blocks),
         ["looks"] => looks(),
         ["runs"] => runs(),
         ["segments"] => parallel(&annex_c()?),
@@ -108,21 +109,28 @@ fn vectors(annex_c: &AnnexC) -> String {
 }
 
 /// Digests of marker, descriptor, labels and slots of one frame for each of some
-/// formats, from its sixteen blocks.
-fn frames(annex_c: &AnnexC, formats: &[Format], blocks: fn(&Format) -> Vec<Vec<u8>>) -> String {
-    let mut text = String::from("format,marker,descriptor,labels,frame\n");
+/// formats, from its sixteen blocks, with each of some pilot choices.
+fn frames(
+    annex_c: &AnnexC,
+    formats: &[Format],
+    choices: &[u8],
+    blocks: fn(&Format) -> Vec<Vec<u8>>,
+) -> String {
+    let mut text = String::from("format,pilots,marker,descriptor,labels,frame\n");
     for f in formats {
         let all_labels: Vec<u8> = (blocks(f).iter())
             .flat_map(|block| labels(f, &encode(f, annex_c.of_size(f.I), block).codeword))
             .collect();
-        text.push_str(&format!(
-            "{},{},{},{},{}\n",
-            f.number,
-            digest(&framing::marker()),
-            digest(&framing::descriptor(f, 0)),
-            digest(&all_labels),
-            digest(&framing::frame(f, &all_labels)),
-        ));
+        for &pilots in choices {
+            text.push_str(&format!(
+                "{},{pilots},{},{},{},{}\n",
+                f.number,
+                digest(&framing::marker()),
+                digest(&framing::descriptor(f, pilots)),
+                digest(&all_labels),
+                digest(&framing::frame(f, pilots, &all_labels)),
+            ));
+        }
     }
     text
 }

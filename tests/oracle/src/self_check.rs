@@ -88,6 +88,7 @@ pub fn self_check(annex_c: &AnnexC) -> Report {
     randomizer(&mut report);
     header(&mut report);
     extension::descriptors(&mut report);
+    pilots(&mut report);
     annex_c_tables(&mut report, annex_c);
     if report.failed {
         // Broken tables may send the stages below to positions that are not there.
@@ -370,6 +371,44 @@ fn header(report: &mut Report) {
     );
 }
 
+/// 5.3 and table 5-2 against what they print, and table 5-1's b6 against the
+/// matrix.
+fn pilots(report: &mut Report) {
+    let numbers = [
+        SECTION,
+        framing::SECTIONS,
+        framing::SUBSECTIONS,
+        framing::SUBSECTION_DATA,
+        framing::SUBSECTION_PILOTS,
+        framing::SECTION_PILOTS,
+        framing::PILOT_SECTION,
+    ];
+    let printed = framing::TABLE_5_2.lines().map(|line| {
+        let words: Vec<&str> = line.split(' ').collect();
+        words[words.len() - 2].parse()
+    });
+    report.check(
+        "table 5-2: its seven numbers, of which the section's 240 pilots and 8340 symbols come from the others",
+        printed.eq(numbers.map(Ok)),
+    );
+    report.check(
+        "table 5-2: 15 sub-sections of 540 data symbols are a codeword section",
+        framing::SUBSECTIONS * framing::SUBSECTION_DATA == SECTION,
+    );
+    let [off, on] = [framing::FRAME_SLOTS, framing::PILOT_FRAME_SLOTS];
+    report.check(
+        "5.3: pilots make a frame of 133760 slots out of one of 129920, around three percent more",
+        [off, on] == [129_920, 133_760] && (200 * (on - off) + off) / (2 * off) == 3,
+    );
+    report.each_format(
+        "table 5-1: b6 turns every bit of the frame descriptor over",
+        |f| {
+            let both = framing::sum(&framing::descriptor(f, 0), &framing::descriptor(f, 1));
+            both == [1; framing::DESCRIPTOR]
+        },
+    );
+}
+
 /// The frame descriptors of some formats, pilots off and on.
 fn descriptors(formats: &[Format]) -> Vec<Vec<u8>> {
     (formats.iter())
@@ -432,6 +471,7 @@ mod tests {
         format_tables(&mut report);
         randomizer(&mut report);
         header(&mut report);
+        pilots(&mut report);
         assert!(!report.failed, "{}", report.text);
     }
 }

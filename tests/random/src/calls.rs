@@ -4,13 +4,15 @@ use crate::draw::{self, Plan};
 use crate::generator::Generator;
 use crate::lent::Lent;
 use crate::tally::Met;
-use crate::tally::Outcome::{self, Block, Different, Passed, Refused, RefusedFor, Same, Wait};
+use crate::tally::Outcome::{
+    self, Block, Different, Passed, PilotsOff, PilotsOn, Refused, RefusedFor, Same, Wait,
+};
 use crate::{encoding, slicer};
 use interface::{Comparison, FormatInfo, Interleaved, RunAnswer, SectionRange, Stepped};
 use oracle::annex_c::{AnnexC, UpperPosition};
 use oracle::checks::{
     self, BLOCK_WAITS, CHANNEL_LENGTH, CUT_COUNT, CUT_PLACE, ELEMENT, FORMAT, FRAME_LENGTH, LENGTH,
-    OUTPUT, PASSED, POSITION, WORKSPACE,
+    OUTPUT, PASSED, PILOTS, POSITION, WORKSPACE,
 };
 use oracle::framing::{self, FRAME_LABELS, FRAME_SLOTS, SECTIONS};
 use oracle::tables::{self, Format, SECTION};
@@ -101,13 +103,16 @@ pub const CALLS: [Call; 15] = [
     Call {
         name: "frame",
         outcomes: &[
-            Passed,
+            PilotsOff,
+            PilotsOn,
             Refused(FORMAT),
+            Refused(PILOTS),
             Refused(LENGTH),
             Refused(ELEMENT),
             Refused(OUTPUT),
+            RefusedFor(OUTPUT, "pilots"),
         ],
-        weight: 3,
+        weight: 6,
         compare: frame_call,
     },
     Call {
@@ -388,10 +393,14 @@ fn labels_call(generator: &mut Generator, _: &AnnexC) -> Compared {
 }
 
 fn frame_call(generator: &mut Generator, _: &AnnexC) -> Compared {
-    let plan = Plan::new(generator, &[FORMAT, LENGTH, ELEMENT, OUTPUT]);
+    let plan = Plan::new(generator, &[FORMAT, PILOTS, LENGTH, ELEMENT, OUTPUT]);
     let f = draw::format(generator);
     let fails = plan.fails(generator, FORMAT);
     let format = draw::format_number(generator, &f, fails);
+    let mut pilots = generator.below(2) as u64;
+    if plan.fails(generator, PILOTS) {
+        pilots = draw::outside(generator, pilots, 2);
+    }
     let fails = plan.fails(generator, LENGTH);
     let length = draw::exact_length(generator, &f, |_| FRAME_LABELS, fails);
     let mut labels = draw::list(generator, length, f.m);
@@ -400,26 +409,38 @@ fn frame_call(generator: &mut Generator, _: &AnnexC) -> Compared {
         draw::spoil(generator, &mut labels, f.m);
     }
     let fails = plan.fails(generator, OUTPUT);
-    let out_length = draw::room(generator, FRAME_SLOTS, fails);
+    let out_length = draw::slots(generator, pilots, fails);
     let labels = Lent::new(generator, &labels);
     let mut out = Lent::filled_words(generator, out_length);
 
-    let number = checks::frame(format, labels.list(), out_length);
+    let number = checks::frame(format, pilots, labels.list(), out_length);
     let frame = if number == PASSED {
-        framing::frame(&f, labels.list())
+        framing::frame(&f, pilots as u8, labels.list())
     } else {
         vec![]
     };
-    let found = interface::frame(format, labels.list(), out.list_mut());
+    let found = interface::frame(format, pilots, labels.list(), out.list_mut());
     compared(
-        format!("format {format}, {length} labels, output of {out_length} slots"),
-        met(number, &f),
+        format!("format {format}, pilots {pilots}, {length} labels, output of {out_length} slots"),
+        met_frame(number, &f, pilots, out_length),
         [
             equal(u64::from(found), number),
             labels.unchanged("the list of labels"),
             out.holds("the output", &frame),
         ],
     )
+}
+
+/// What is met, with the pilot choice, or that only the pilots have no room.
+fn met_frame(number: u64, f: &Format, pilots: u64, out_length: usize) -> Met {
+    let mut met = met(number, f);
+    met.outcome = match number {
+        PASSED if pilots == 0 => PilotsOff,
+        PASSED => PilotsOn,
+        OUTPUT if out_length >= FRAME_SLOTS => RefusedFor(OUTPUT, "pilots"),
+        _ => met.outcome,
+    };
+    met
 }
 
 fn section_call(generator: &mut Generator, _: &AnnexC) -> Compared {

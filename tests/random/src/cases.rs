@@ -10,17 +10,18 @@ use oracle::tables::{self, Format};
 use std::time::{Duration, Instant};
 
 /// So many cases are compared however slow the machine is, so that every
-/// outcome is met. The least likely are six: 12 and 13, for the outer cuts, the
-/// inner ones or both. Of 56 cases 9 encode by segments, of 9 of those one is
-/// to fail this check first, and of 3 faults one is in these cuts: 9/56 x 1/9 x
-/// 1/3 = 1/168. Next comes a push's refusal with 3. Of 56 cases 4 are pushes,
-/// of 8 pushes one is to fail this check first; of 5 slicers that are drawn for
-/// it one has no bits waiting, and of 8 memories one is empty: 4/56 x 1/8 x 4/5
-/// x 7/8 = 1/160. A frame's refusal with 3, which 5 of 37 formats do not have, is
-/// more likely: 3/56 x 1/6 x 32/37 = 1/130. So 7000 cases, the slicers' runs taken
-/// off, miss one of the outcomes, 75 in all, less than once in 10^17 runs of this
-/// program.
-const LEAST: u64 = 7000;
+/// outcome is met. The least likely is a frame's refusal with 5 where only the
+/// pilots have no room. Of 59 cases 6 are frames, of 7 frames one is to fail this
+/// check first, of 2 choices one is pilots on, and of 4 rooms that are too short
+/// for it 3 would do without: 6/59 x 1/7 x 1/2 x 3/4 = 1/184. Next come six: 12 and
+/// 13, for the outer cuts, the inner ones or both. Of 59 cases 9 encode by
+/// segments, of 9 of those one is to fail this check first, and of 3 faults one is
+/// in these cuts: 9/59 x 1/9 x 1/3 = 1/177. Then comes a push's refusal with 3. Of
+/// 59 cases 4 are pushes, of 8 pushes one is to fail this check first; of 5 slicers
+/// that are drawn for it one has no bits waiting, and of 8 memories one is empty:
+/// 4/59 x 1/8 x 4/5 x 7/8 = 1/169. So 7800 cases, the slicers' runs taken off, miss
+/// one of the outcomes, 78 in all, less than once in 10^17 runs of this program.
+const LEAST: u64 = 7800;
 
 /// One case of so many is a run of a slicer, of the formats in turn, so that
 /// each format has one.
@@ -141,7 +142,7 @@ mod tests {
         assert!(tables::formats().iter().all(run));
     }
 
-    /// 41 are to be expected of each of the least likely outcomes.
+    /// 42 are to be expected of the least likely outcome.
     #[test]
     fn the_least_number_of_cases_meets_every_outcome_often() {
         let annex_c = annex_c::parse(crate::ANNEX_C).unwrap();

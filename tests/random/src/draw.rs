@@ -1,6 +1,7 @@
 //! Random arguments, with and without faults.
 
 use crate::generator::Generator;
+use oracle::framing::{FRAME_SLOTS, PILOT_FRAME_SLOTS};
 use oracle::segments::MOST_CUTS;
 use oracle::tables::{self, Format};
 
@@ -88,6 +89,20 @@ pub fn room(generator: &mut Generator, least: usize, fails: bool) -> usize {
         (true, 2) => 0,
         (true, _) => generator.below(least),
     }
+}
+
+/// Room for a frame with a pilot choice, or less. Where the other choice's length
+/// will do, as often as not it is that one or lies between the two.
+pub fn slots(generator: &mut Generator, pilots: u64, fails: bool) -> usize {
+    let [least, other] = match pilots {
+        1 => [PILOT_FRAME_SLOTS, FRAME_SLOTS],
+        _ => [FRAME_SLOTS, PILOT_FRAME_SLOTS],
+    };
+    if (other < least) == fails && generator.coin() {
+        let between = FRAME_SLOTS + generator.below(PILOT_FRAME_SLOTS - FRAME_SLOTS);
+        return generator.pick(&[other, between]);
+    }
+    room(generator, least, fails)
 }
 
 /// The largest element of m bits.
@@ -256,6 +271,18 @@ mod tests {
             }
         }
         assert!(can_be_illegal(7) && !can_be_illegal(8));
+    }
+
+    #[test]
+    fn slots_are_enough_or_not() {
+        let mut generator = Generator::of_case(1, 1);
+        for (pilots, least) in [(0, 129_920), (1, 133_760)] {
+            for _ in 0..100 {
+                let fails = generator.coin();
+                let length = slots(&mut generator, pilots, fails);
+                assert_eq!(length < least, fails, "{pilots} {length}");
+            }
+        }
     }
 
     #[test]

@@ -7,6 +7,9 @@ use std::fmt::{self, Display, Formatter};
 #[derive(Clone, Copy, Debug, PartialEq, Eq, PartialOrd, Ord)]
 pub enum Outcome {
     Passed,
+    /// A frame passed, pilots off or on.
+    PilotsOff,
+    PilotsOn,
     /// A comparison passed, of lists that are the same or that differ.
     Same,
     Different,
@@ -15,7 +18,8 @@ pub enum Outcome {
     Wait,
     /// With the number of the check that failed.
     Refused(u64),
-    /// The same, and which of two lists failed it.
+    /// The same, and which of two lists failed it; or that a frame has no room for
+    /// its pilots, and would have without.
     RefusedFor(u64, &'static str),
 }
 
@@ -29,6 +33,8 @@ impl Display for Outcome {
     fn fmt(&self, f: &mut Formatter) -> fmt::Result {
         match self {
             Outcome::Passed => write!(f, "passed"),
+            Outcome::PilotsOff => write!(f, "pilots off"),
+            Outcome::PilotsOn => write!(f, "pilots on"),
             Outcome::Same => write!(f, "same"),
             Outcome::Different => write!(f, "different"),
             Outcome::Block => write!(f, "block"),

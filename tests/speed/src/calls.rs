@@ -3,7 +3,7 @@
 use crate::plain::{self, Plain};
 use interface::{BlockAnswer, Comparison, RunAnswer, SegmentsAnswer, Slicer, SlicerAnswer};
 use oracle::digest::{seeded_block, seeded_frame};
-use oracle::framing::{FRAME_SLOTS, SECTIONS};
+use oracle::framing::{PILOT_FRAME_SLOTS, SECTIONS};
 use oracle::segments::{equal_cuts, MOST_CUTS};
 use oracle::slicer::MEMORY;
 use oracle::tables::{Format, SECTION};
@@ -14,7 +14,7 @@ pub trait Side {
     fn run(&self, state: u64, bits: &[u8], out: &mut [u8]) -> RunAnswer;
     fn encode(&self, format: u64, block: &[u8], work: &mut [u8], out: &mut [u8]) -> u8;
     fn labels(&self, format: u64, codeword: &[u8], out: &mut [u8]) -> u8;
-    fn frame(&self, format: u64, labels: &[u8], out: &mut [u16]) -> u8;
+    fn frame(&self, format: u64, pilots: u64, labels: &[u8], out: &mut [u16]) -> u8;
     fn compare(&self, format: u64, a: &[u8], b: &[u8]) -> Comparison;
     fn push(&self, slicer: Slicer, frame: &[u8], waiting: &mut [u8]) -> SlicerAnswer;
     fn block(&self, slicer: Slicer, waiting: &mut [u8], out: &mut [u8]) -> BlockAnswer;
@@ -35,8 +35,8 @@ impl Side for Library {
         interface::labels(format, codeword, out)
     }
 
-    fn frame(&self, format: u64, labels: &[u8], out: &mut [u16]) -> u8 {
-        interface::frame(format, labels, out)
+    fn frame(&self, format: u64, pilots: u64, labels: &[u8], out: &mut [u16]) -> u8 {
+        interface::frame(format, pilots, labels, out)
     }
 
     fn compare(&self, format: u64, a: &[u8], b: &[u8]) -> Comparison {
@@ -65,8 +65,8 @@ impl Side for Plain {
         self.labels(format, codeword, out)
     }
 
-    fn frame(&self, format: u64, labels: &[u8], out: &mut [u16]) -> u8 {
-        self.frame(format, labels, out)
+    fn frame(&self, format: u64, pilots: u64, labels: &[u8], out: &mut [u16]) -> u8 {
+        self.frame(format, pilots, labels, out)
     }
 
     fn compare(&self, format: u64, a: &[u8], b: &[u8]) -> Comparison {
@@ -93,6 +93,8 @@ pub enum Call {
     Encode,
     Labels,
     Frame,
+    /// The same with pilots.
+    FramePilots,
     /// Of two equal lists.
     CompareSame,
     /// Of two lists that differ at the last place.
@@ -106,11 +108,12 @@ pub enum Call {
 }
 
 impl Call {
-    pub const ALL: [Call; 10] = [
+    pub const ALL: [Call; 11] = [
         Call::Run,
         Call::Encode,
         Call::Labels,
         Call::Frame,
+        Call::FramePilots,
         Call::CompareSame,
         Call::CompareDiffer,
         Call::PushUsual,
@@ -125,6 +128,7 @@ impl Call {
             Call::Encode => "encode",
             Call::Labels => "labels",
             Call::Frame => "frame",
+            Call::FramePilots => "frame-pilots",
             Call::CompareSame => "compare-same",
             Call::CompareDiffer => "compare-differ",
             Call::PushUsual => "push-1115",
@@ -142,7 +146,7 @@ impl Call {
     pub fn aim(self) -> f64 {
         match self {
             Call::Labels => 3.0,
-            Call::Frame => 2.0,
+            Call::Frame | Call::FramePilots => 2.0,
             Call::Run
             | Call::Encode
             | Call::CompareSame
@@ -162,7 +166,7 @@ impl Call {
             }
             Call::PushUsual => ("stream bit", marked_bits(USUAL)),
             Call::PushLongest => ("stream bit", marked_bits(LONGEST)),
-            Call::Frame => ("label", SECTIONS * SECTION),
+            Call::Frame | Call::FramePilots => ("label", SECTIONS * SECTION),
             Call::CompareSame | Call::CompareDiffer => ("label", SECTION),
         }
     }
@@ -246,7 +250,7 @@ impl Buffers {
             work: vec![value; format.I],
             codeword: vec![value; format.N],
             labels: vec![value; SECTION],
-            frame: vec![u16::MAX; FRAME_SLOTS],
+            frame: vec![u16::MAX; PILOT_FRAME_SLOTS],
             waiting: seeded_block(3, MEMORY),
             block: vec![value; format.K],
         }
@@ -285,6 +289,7 @@ impl Answer {
 pub fn make(call: Call, side: &impl Side, a: &Arguments, b: &mut Buffers) -> Answer {
     let format = a.format.number;
     let compare = |other| Answer::Comparison(side.compare(format, &a.labels, other));
+    let frame = |pilots, out| Answer::Number(side.frame(format, pilots, &a.frame_labels, out));
     let push = |frame, waiting| Answer::Slicer(side.push(a.slicer(0), frame, waiting));
     let block = |octets, waiting, out| {
         Answer::Block(side.block(a.slicer(marked_bits(octets)), waiting, out))
@@ -293,7 +298,8 @@ pub fn make(call: Call, side: &impl Side, a: &Arguments, b: &mut Buffers) -> Ans
         Call::Run => Answer::Run(side.run(3, &a.block, &mut b.run)),
         Call::Encode => Answer::Number(side.encode(format, &a.block, &mut b.work, &mut b.codeword)),
         Call::Labels => Answer::Number(side.labels(format, &a.codeword, &mut b.labels)),
-        Call::Frame => Answer::Number(side.frame(format, &a.frame_labels, &mut b.frame)),
+        Call::Frame => frame(0, &mut b.frame),
+        Call::FramePilots => frame(1, &mut b.frame),
         Call::CompareSame => compare(&a.equal_labels),
         Call::CompareDiffer => compare(&a.changed_labels),
         Call::PushUsual => push(&a.usual_frame, &mut b.waiting),

@@ -25,8 +25,8 @@ const ANNEX_C: &str = include_str!("../../../data/annex-c.csv");
 
 const USAGE: &str =
     "usage: speed [calls | segments | bch | formats | --callgrind-call CALL FORMAT N]
-  CALL is library- or plain-, and then run, encode, labels, frame, compare-same, compare-differ,
-  push-1115, push-65536, block-1115 or block-65536";
+  CALL is library- or plain-, and then run, encode, labels, frame, frame-pilots, compare-same,
+  compare-differ, push-1115, push-65536, block-1115 or block-65536";
 
 /// The formats of the first table: the shortest block, one between, the longest
 /// that goes through the trellises alone, and the longest with BCH pieces.

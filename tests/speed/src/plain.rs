@@ -5,7 +5,9 @@ use crate::bch::PlainBch;
 use crate::slicer::PlainSlicer;
 use interface::{BlockAnswer, Comparison, RunAnswer, Slicer, SlicerAnswer};
 use oracle::annex_c::AnnexC;
-use oracle::framing::{FRAME_LABELS, FRAME_SLOTS};
+use oracle::framing::{
+    FRAME_LABELS, FRAME_SLOTS, PILOT, PILOT_FRAME_SLOTS, SUBSECTION_DATA, SUBSECTION_PILOTS,
+};
 use oracle::tables::{Format, SECTION};
 use oracle::{encoder, framing};
 
@@ -18,8 +20,8 @@ struct Tables {
     upper: Vec<u32>,
     /// Whether the lower register keeps a bit.
     lower: Vec<bool>,
-    /// The frame's slots before the labels.
-    header: Vec<u16>,
+    /// The frame's slots before the labels, pilots off and on.
+    headers: [Vec<u16>; 2],
 }
 
 impl Tables {
@@ -38,7 +40,7 @@ impl Tables {
             pi,
             upper,
             lower: encoder::lower_kept(format)[..format.I].to_vec(),
-            header: framing::frame(format, &[]),
+            headers: [0, 1].map(|pilots| framing::frame(format, pilots, &[])),
         }
     }
 }
@@ -120,9 +122,14 @@ impl Plain {
         0
     }
 
-    pub fn frame(&self, format: u64, labels: &[u8], out: &mut [u16]) -> u8 {
+    pub fn frame(&self, format: u64, pilots: u64, labels: &[u8], out: &mut [u16]) -> u8 {
         let Some(t) = self.tables(format) else {
             return 1;
+        };
+        let (header, length) = match pilots {
+            0 => (&t.headers[0], FRAME_SLOTS),
+            1 => (&t.headers[1], PILOT_FRAME_SLOTS),
+            _ => return 14,
         };
         if labels.len() != FRAME_LABELS {
             return 2;
@@ -130,13 +137,15 @@ impl Plain {
         if !all_at_most(labels, top_label(&t.format)) {
             return 3;
         }
-        if out.len() < FRAME_SLOTS {
+        if out.len() < length {
             return 5;
         }
-        let (header, slots) = out[..FRAME_SLOTS].split_at_mut(t.header.len());
-        header.copy_from_slice(&t.header);
-        for (slot, label) in slots.iter_mut().zip(labels) {
-            *slot = u16::from(*label);
+        let (front, slots) = out[..length].split_at_mut(header.len());
+        front.copy_from_slice(header);
+        if pilots == 0 {
+            put_labels(labels, slots);
+        } else {
+            put_labels_and_pilots(labels, slots);
         }
         0
     }
@@ -185,6 +194,22 @@ fn comparison(number: u64, same: u64, count: u64, first: u64) -> Comparison {
         same,
         count,
         first,
+    }
+}
+
+fn put_labels(labels: &[u8], slots: &mut [u16]) {
+    for (slot, label) in slots.iter_mut().zip(labels) {
+        *slot = u16::from(*label);
+    }
+}
+
+/// Each sub-section's labels, and its pilots behind them.
+fn put_labels_and_pilots(labels: &[u8], slots: &mut [u16]) {
+    let subsections = slots.chunks_exact_mut(SUBSECTION_DATA + SUBSECTION_PILOTS);
+    for (labels, slots) in labels.chunks_exact(SUBSECTION_DATA).zip(subsections) {
+        let (data, pilots) = slots.split_at_mut(SUBSECTION_DATA);
+        put_labels(labels, data);
+        pilots.fill(PILOT);
     }
 }
 

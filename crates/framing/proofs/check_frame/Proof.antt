@@ -16,7 +16,7 @@ abbrev start : tie.After-enum-told → tie.Start
 start c = c .before .before .before .before
 
 abbrev told : tie.After-all-at-most → tie.After-enum-told
-told c = c .before .before .before
+told c = c .before .before .before .before
 
 known : (c : tie.After-enum-told) → isFormat (start c .args .format) ≡ true
 known c =
@@ -48,7 +48,13 @@ returns c =
 
 returns-2 : tie.Need-returns-2
 unfolding frameNumber
-returns-2 c = simp (known (c .before), ne-eqb _ _ (c .if1 .taken))
+returns-2 c = simp (known (c .before), lt-leb _ _ (c .if1 .taken))
+
+returns-3 : tie.Need-returns-3
+unfolding frameNumber
+returns-3 c =
+    let p = c .before in
+    simp (known (p .before), le-leb _ _ (p .if1 .left), ne-eqb _ _ (c .if2 .taken))
 
 top-label-requires : tie.Need-top-label-requires
 top-label-requires c κs = search needs
@@ -56,25 +62,33 @@ top-label-requires c κs = search needs
 all-at-most-requires : tie.Need-all-at-most-requires
 all-at-most-requires c κs = search needs
 
-returns-3 : tie.Need-returns-3
-unfolding frameNumber
-returns-3 c =
-    let e = c .before .before .before in
-    simp (known (e .before), eq-eqb _ _ (e .if1 .left), sym (legal (c .before)) ∙ not-true _ (c .if2 .taken))
-
 returns-4 : tie.Need-returns-4
 unfolding frameNumber
 returns-4 c =
-    let e = c .before .before .before .before in
-    simp
-    (known (e .before), eq-eqb _ _ (e .if1 .left), sym (legal (c .before .before)) ∙ not-false _ (c .before .if2 .left), lt-leb _ _ (c .if3 .taken))
+    let e = c .before .before .before in
+    let p = e .before in
+    simp (known (p .before), le-leb _ _ (p .if1 .left), eq-eqb _ _ (e .if2 .left), sym (legal (c .before)) ∙ not-true _ (c .if3 .taken))
+
+frame-length-requires : tie.Need-frame-length-requires
+frame-length-requires c κs = search needs
 
 returns-5 : tie.Need-returns-5
 unfolding frameNumber
 returns-5 c =
-    let e = c .before .before .before .before in
+    let l = c .before .before in
+    let e = l .before .before .before in
+    let p = e .before in
     simp
-    (known (e .before), eq-eqb _ _ (e .if1 .left), sym (legal (c .before .before)) ∙ not-false _ (c .before .if2 .left), le-leb _ _ (c .if3 .left))
+    (known (p .before), le-leb _ _ (p .if1 .left), eq-eqb _ _ (e .if2 .left), sym (legal (l .before)) ∙ not-false _ (l .if3 .left), lt-leb _ _ (rw (c .before .frame-length .ensures) at (c .if4 .taken)))
+
+returns-6 : tie.Need-returns-6
+unfolding frameNumber
+returns-6 c =
+    let l = c .before .before in
+    let e = l .before .before .before in
+    let p = e .before in
+    simp
+    (known (p .before), le-leb _ _ (p .if1 .left), eq-eqb _ _ (e .if2 .left), sym (legal (l .before)) ∙ not-false _ (l .if3 .left), le-leb _ _ (rw (c .before .frame-length .ensures) at (c .if4 .left)))
 
 pub check-frame-spec : {M : Type 1} → statement M
 check-frame-spec =
@@ -85,8 +99,10 @@ check-frame-spec =
     enum-told-2
     returns
     returns-2
+    returns-3
     top-label-requires
     all-at-most-requires
-    returns-3
     returns-4
-    returns-5)
+    frame-length-requires
+    returns-5
+    returns-6)

@@ -20,8 +20,8 @@ put-frame-requires : tie.Need-put-frame-requires
 put-frame-requires c κs =
     let t = c .before in
     let a = t .before .before .before .before .args in
-    let p = frame-passed (a .format) (a .labels .now) _ (sym (t .before .check-frame .ensures) ∙ t .if1 .left) in
-    (p .known, p .long, p .fits)
+    let p = frame-passed (a .format) (a .pilots) (a .labels .now) _ (sym (t .before .check-frame .ensures) ∙ t .if1 .left) in
+    (p .known, p .choice, p .long, p .fits)
 
 same-length : tie.Need-same-length
 same-length c = search needs

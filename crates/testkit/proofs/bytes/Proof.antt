@@ -10,7 +10,7 @@ cast-result : tie.Need-cast-result
 cast-result c = search needs
 
 returns : tie.Need-returns
-returns c = sym (length-replicate {A = ℕ} 131072 (c .args .value % 256))
+returns c = sym (length-replicate {A = ℕ} 135168 (c .args .value % 256))
 
 pub bytes-spec : {M : Type 1} → statement M
 bytes-spec = tie.close (tie.spec cast-result returns)

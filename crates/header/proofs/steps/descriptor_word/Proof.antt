@@ -10,10 +10,10 @@ use Rattle.header.proofs.steps.descriptor_word.Statement.{statement}
 use Rattle.header.proofs.steps.descriptor_word.Tie as tie
 
 mul-add-rows : tie.Need-mul-add-rows
-mul-add-rows c = omega (arith, format-high (c .args .format) (c .pre))
+mul-add-rows c = omega (arith, format-high (c .args .format) (c .pre .0))
 
 add-add-rows : tie.Need-add-add-rows
-add-add-rows c = omega (arith, format-high (c .args .format) (c .pre))
+add-add-rows c = omega (arith, format-high (c .args .format) (c .pre .0))
 
 slice-aggregate-add-rows : tie.Need-slice-aggregate-add-rows
 slice-aggregate-add-rows c = search needs
@@ -23,7 +23,7 @@ add-rows-requires c κs = search needs
 
 returns : tie.Need-returns
 unfolding G scrambling bitsOf
-returns c = descriptor-bits _ _ (omega arith) _ _ (c .add-rows .ensures) refl
+returns c = descriptor-bits _ _ (c .before .before .pre .1) _ _ (c .add-rows .ensures) refl
 
 pub descriptor-word-spec : {M : Type 1} → statement M
 descriptor-word-spec =

@@ -26,7 +26,7 @@ unfolding marker unpacked bitsOf
 returns c =
     let d = c .before .before in
     let m = d .before .before .before .before .before in
-    header-stored _ _ _ _ _ (m .put-words .ensures) (d .put-word .ensures) (d .before .before .descriptor-word .ensures)
+    header-stored _ _ _ _ _ _ (m .put-words .ensures) (d .put-word .ensures) (d .before .before .descriptor-word .ensures)
 
 pub put-spec : {M : Type 1} → statement M
 put-spec =

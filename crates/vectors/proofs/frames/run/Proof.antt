@@ -20,8 +20,8 @@ write-all-requires c κs = search needs
 loop-holds : tie.Need-loop-holds Inv-loop μ-loop
 loop-holds c = search needs
 
-print-frame-requires : tie.Need-print-frame-requires Inv-loop μ-loop
-print-frame-requires c κs = search needs
+print-frames-requires : tie.Need-print-frames-requires Inv-loop μ-loop
+print-frames-requires c κs = search needs
 
 add-format : tie.Need-add-format Inv-loop μ-loop
 add-format c = search needs
@@ -44,7 +44,7 @@ run-spec =
     slice-aggregate-write-all
     write-all-requires
     loop-holds
-    print-frame-requires
+    print-frames-requires
     add-format
     loop-less
     loop-again
