@@ -263,7 +263,7 @@ def labels(format: SupportsIndex, codeword: Buffer, *, out: Optional[Buffer] = N
 
 def frame(format: SupportsIndex, pilots: SupportsIndex, labels: Buffer, *, out: Optional[Buffer] = None) -> memoryview:
     """The frame of sixteen codewords' labels, without pilots (0) or with them (1): the first 129,920 slots of out, with pilots the
-    first 133,760. Its elements are unsigned and of 16 bits (array.array of type H, numpy's uint16).
+    first 133,760. The elements of out are unsigned and of 16 bits (array.array of type H, numpy's uint16).
 
     With pilots, slot s is a pilot's exactly if s >= 320 and (s - 320) % 556 >= 540.
 

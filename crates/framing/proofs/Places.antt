@@ -19,7 +19,7 @@ use Rattle.header.specs.Header.{header, headerLength, headerOne, headerZero}
 use Rattle.header.proofs.Headers.{header-length, header-low}
 use Rattle.pilots.specs.Pilots.{pilot, pilotedLength, pilots, subsectionLabels, subsectionLength, subsectionPilots, withPilots}
 use Rattle.pilots.proofs.Inserted.{with-append, with-length, with-next, with-rest}
-use Rattle.pilots.proofs.Places.{label-at, pilot-at}
+use Rattle.pilots.proofs.Places.{standing, with-at}
 use Rattle.framing.specs.Frame.{frame, section}
 use Rattle.framing.specs.Places.{isPilot, labelSlot, withoutFrom, withoutPilots}
 
@@ -109,28 +109,32 @@ without-frame f labels =
     stays 0 h (withPilots labels) (λ i below. in-header (0 + i) (omega (arith, below, long)))
     ∙ ap (λ (l : List ℕ). h ++ l) (ap (λ (s : ℕ). withoutFrom s (withPilots labels)) start ∙ without-with (length labels) 0 labels (omega arith))
 
--- slots behind the header
+-- sub-sections of a codeword section (table 5-2)
+abbrev subsections : ℕ
+subsections = 15
+
 module _ (f : ℕ) (labels : List ℕ) where
-  behind-header : (p : ℕ) → getD (frame f pilotsOn labels) (headerLength + p) 0 ≡ getD (withPilots labels) p 0
-  behind-header p =
-      ap (λ (n : ℕ). getD (frame f pilotsOn labels) (n + p) 0) (sym (header-length f pilotsOn))
-      ∙ getD-append-add (header f pilotsOn) (withPilots labels) p 0
+  -- a slot behind the header
+  behind-header : (s : ℕ) → headerLength ≤ s → s < headerLength + pilotedLength (length labels)
+      → getD (frame f pilotsOn labels) s 0 ≡ standing labels (s - headerLength)
+  behind-header s above inside =
+      let p = s - headerLength in
+      let e : s ≡ length (header f pilotsOn) + p = omega (arith, header-length f pilotsOn) in
+      ap (λ (n : ℕ). getD (frame f pilotsOn labels) n 0) e ∙ getD-append-add (header f pilotsOn) (withPilots labels) p 0 ∙ with-at labels p (omega arith)
 
   pub label-slot : (i : ℕ) → i < length labels → getD (frame f pilotsOn labels) (labelSlot i) 0 ≡ getD labels i 0
   label-slot i h =
-      let p = i / subsectionLabels * subsectionLength + i % subsectionLabels in
+      let p = labelSlot i - headerLength in
+      let low : p % subsectionLength < subsectionLabels = omega arith in
       let e : p / subsectionLength * subsectionLabels + p % subsectionLength ≡ i = omega arith in
-      behind-header p ∙ label-at labels p (omega arith) (omega arith) ∙ ap (λ (k : ℕ). getD labels k 0) e
+      behind-header (labelSlot i) (omega arith) (omega arith) ∙ rw (lt-leb _ _ low, e)
 
-  -- a slot that is a pilot's
   pub pilot-slot : (s : ℕ) → s < headerLength + pilotedLength (length labels) → isPilot s ≡ true → getD (frame f pilotsOn labels) s 0 ≡ pilot
   pilot-slot s inside h =
-      let above = leb-true headerLength s (left-true (leb headerLength s) (leb subsectionLabels ((s - headerLength) % subsectionLength)) h) in
-      let past = leb-true subsectionLabels ((s - headerLength) % subsectionLength) (right-true (leb headerLength s) (leb subsectionLabels ((s - headerLength) % subsectionLength)) h) in
-      let e : s ≡ headerLength + (s - headerLength) = omega arith in
-      ap (λ (n : ℕ). getD (frame f pilotsOn labels) n 0) e ∙ behind-header (s - headerLength) ∙ pilot-at labels (s - headerLength) (omega arith) past
+      let past = leb subsectionLabels ((s - headerLength) % subsectionLength) in
+      behind-header s (leb-true _ _ (left-true (leb headerLength s) past h)) inside ∙ rw (right-true (leb headerLength s) past h)
 
-  -- and one that is not
+  -- a slot that is no pilot's
   pub other-slot : (top : ℕ) → allAtMost top labels ≡ true → top < headerZero → (s : ℕ) → s < headerLength + pilotedLength (length labels) → isPilot s ≡ false
       → getD (frame f pilotsOn labels) s 0 < pilot
   other-slot top legal low s inside h =
@@ -138,14 +142,12 @@ module _ (f : ℕ) (labels : List ℕ) where
       (leb headerLength s)
       (λ t.
       let p = s - headerLength in
-      let above = leb-true headerLength s t in
-      let e : s ≡ headerLength + p = omega arith in
-      let under = leb-false subsectionLabels (p % subsectionLength) (rw t at h) in
-      let found = ap (λ (n : ℕ). getD (frame f pilotsOn labels) n 0) e ∙ behind-header p ∙ label-at labels p (omega arith) under in
-      omega (arith, found, legal-at top labels legal (p / subsectionLength * subsectionLabels + p % subsectionLength), low))
+      let i = p / subsectionLength * subsectionLabels + p % subsectionLength in
+      let no : leb subsectionLabels (p % subsectionLength) ≡ false = rw t at h in
+      let found : getD (frame f pilotsOn labels) s 0 ≡ getD labels i 0 = behind-header s (leb-true _ _ t) inside ∙ rw no in
+      omega (arith, found, legal-at top labels legal i, low))
       (λ t.
-      let below = leb-false headerLength s t in
-      let found = List·getD-append (header f pilotsOn) (withPilots labels) 0 s (omega (arith, below, header-length f pilotsOn)) in
+      let found = List·getD-append (header f pilotsOn) (withPilots labels) 0 s (omega (arith, leb-false headerLength s t, header-length f pilotsOn)) in
       omega (arith, found, legal-at headerOne (header f pilotsOn) (header-low f pilotsOn) s))
 
   -- a codeword section, and its pilots among its labels
@@ -156,16 +158,17 @@ module _ (f : ℕ) (labels : List ℕ) where
       let rest = drop (k * symbols) labels in
       let b = section labels k in
       let c = drop symbols rest in
+      let slots = pilotedLength symbols in
       let long-a = length-take-le (k * symbols) labels (omega (arith, room)) in
       let long-b = length-take-le symbols rest (omega (arith, room, length-drop (k * symbols) labels)) in
       let split : withPilots labels ≡ withPilots a ++ (withPilots b ++ withPilots c) =
       ap withPilots (sym (take-append-drop (k * symbols) labels))
-      ∙ with-append (15 * k) a rest (omega (arith, long-a))
-      ∙ ap (λ (l : List ℕ). withPilots a ++ l) (ap withPilots (sym (take-append-drop symbols rest)) ∙ with-append 15 b c (omega (arith, long-b))) in
-      let past : headerLength + k * pilotedLength symbols ≡ length (header f pilotsOn) + length (withPilots a) =
+      ∙ with-append (subsections * k) a rest (omega (arith, long-a))
+      ∙ ap (λ (l : List ℕ). withPilots a ++ l) (ap withPilots (sym (take-append-drop symbols rest)) ∙ with-append subsections b c (omega (arith, long-b))) in
+      let past : headerLength + k * slots ≡ length (header f pilotsOn) + length (withPilots a) =
       omega (arith, header-length f pilotsOn, with-length a, long-a) in
-      ap (λ (n : ℕ). take (pilotedLength symbols) (drop n (frame f pilotsOn labels))) past
-      ∙ ap (take (pilotedLength symbols)) (drop-append-add (header f pilotsOn) (withPilots labels) (length (withPilots a)))
-      ∙ ap (λ (l : List ℕ). take (pilotedLength symbols) (drop (length (withPilots a)) l)) split
-      ∙ ap (take (pilotedLength symbols)) (drop-append-seam (withPilots a) (withPilots b ++ withPilots c))
-      ∙ take-at (withPilots b) (withPilots c) (pilotedLength symbols) (with-length b ∙ ap pilotedLength long-b)
+      ap (λ (n : ℕ). take slots (drop n (frame f pilotsOn labels))) past
+      ∙ ap (take slots) (drop-append-add (header f pilotsOn) (withPilots labels) (length (withPilots a)))
+      ∙ ap (λ (l : List ℕ). take slots (drop (length (withPilots a)) l)) split
+      ∙ ap (take slots) (drop-append-seam (withPilots a) (withPilots b ++ withPilots c))
+      ∙ take-at (withPilots b) (withPilots c) slots (with-length b ∙ ap pilotedLength long-b)

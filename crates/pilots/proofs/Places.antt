@@ -1,15 +1,22 @@
 -- What stands at each place among the labels with pilots, place 0 being the first label's.
 use mathlib.Core.Path.{_≡_, ap, _∙_}
-use mathlib.Core.Bool.{false}
 use mathlib.Core.List.{List, _++_}
 use Prim.Native.Nat.{ℕ, zero, suc, _+_, _-_, _*_, _/_, _%_, _≤_, _<_}
 use native.Mathlib.Omega.{arith}
-use borrow.Author.Tests.{ltb-true, ltb-false}
-use lib.Dec.{ltb}
+use borrow.Author.Tests.{lt-leb, leb-true, leb-false}
+use lib.Dec.{leb}
 use lib.ListN.{length, getD, take, drop, length-append, length-drop, getD-replicate, List·getD-append}
 use lib.Seq.{getD-append-add, getD-take, getD-drop, length-take-le}
+use Rattle.bits.specs.Choice.{if_then_else_}
 use Rattle.bits.proofs.Cases.{by-cases}
 use Rattle.pilots.specs.Pilots.{inserted, pilot, pilotedLength, pilots, subsectionLabels, subsectionLength, subsectionPilots, withPilots}
+
+-- a pilot, where the place, modulo the length of a sub-section, is past its labels; else a label
+abbrev pub standing : List ℕ → ℕ → ℕ
+standing labels p =
+    if leb subsectionLabels (p % subsectionLength)
+    then pilot
+    else getD labels (p / subsectionLength * subsectionLabels + p % subsectionLength) 0
 
 -- the first sub-section, and what follows it
 module _ (labels : List ℕ) (more : List ℕ) (h : subsectionLabels ≤ length labels) where
@@ -40,66 +47,48 @@ module _ (labels : List ℕ) (more : List ℕ) (h : subsectionLabels ≤ length 
   at-more : (p : ℕ) → getD (front ++ pilots ++ more) (subsectionLength + p) 0 ≡ getD more p 0
   at-more p = rw (← chunk-length) (getD-append-add (front ++ pilots) more p 0)
 
+  in-first : (p : ℕ) → p < subsectionLength → getD (front ++ pilots ++ more) p 0 ≡ standing labels p
+  in-first p below =
+      let same : p % subsectionLength ≡ p = omega arith in
+      let first : p / subsectionLength * subsectionLabels + p ≡ p = omega arith in
+      by-cases
+      (leb subsectionLabels p)
+      (λ t. rw (same, t) (at-pilot p (leb-true subsectionLabels p t) below))
+      (λ f. rw (same, f, first) (at-label p (leb-false subsectionLabels p f)))
+
 -- n sub-sections, and fewer labels over than another has
 abbrev Parts : ℕ → List ℕ → Type 0
 Parts n labels = (n * subsectionLabels ≤ length labels) × (length labels < suc n * subsectionLabels)
 
-parts-rest : (n : ℕ) (labels : List ℕ) → Parts (suc n) labels → Parts n (drop subsectionLabels labels)
-parts-rest n labels h = let e = length-drop subsectionLabels labels in (omega (arith, e, h .0), omega (arith, e, h .1))
+-- one sub-section on
+standing-on : (labels : List ℕ) (p : ℕ) → standing (drop subsectionLabels labels) p ≡ standing labels (subsectionLength + p)
+standing-on labels p =
+    let here : (subsectionLength + p) % subsectionLength ≡ p % subsectionLength = omega arith in
+    let there : subsectionLabels + (p / subsectionLength * subsectionLabels + p % subsectionLength) ≡ (subsectionLength + p) / subsectionLength * subsectionLabels + p % subsectionLength = omega arith in
+    rw (here, ← there, getD-drop subsectionLabels labels (p / subsectionLength * subsectionLabels + p % subsectionLength) 0)
 
--- the place behind the first sub-section
-past : (p : ℕ) → ltb p subsectionLength ≡ false → p ≡ subsectionLength + (p - subsectionLength)
-past p f = let h = ltb-false p subsectionLength f in omega arith
-
-inserted-pilot : (n : ℕ) (labels : List ℕ) → Parts n labels → (p : ℕ) → p < length labels + n * subsectionPilots → subsectionLabels ≤ p % subsectionLength
-    → getD (inserted n labels) p 0 ≡ pilot
-inserted-pilot zero labels h p inside at = absurd (omega (arith, h .1))
-inserted-pilot (suc n) labels h p inside at =
+inserted-at : (n : ℕ) (labels : List ℕ) → Parts n labels → (p : ℕ) → p < length labels + n * subsectionPilots → getD (inserted n labels) p 0 ≡ standing labels p
+inserted-at zero labels h p inside =
+    let low : p % subsectionLength < subsectionLabels = omega (arith, h .1) in
+    let e : p / subsectionLength * subsectionLabels + p % subsectionLength ≡ p = omega (arith, h .1) in
+    rw (lt-leb _ _ low, e)
+inserted-at (suc n) labels h p inside =
     let rest = drop subsectionLabels labels in
     let many : subsectionLabels ≤ length labels = omega (arith, h .0) in
-    let q = p - subsectionLength in
-    let e = length-drop subsectionLabels labels in
+    let long = length-drop subsectionLabels labels in
+    let parts : Parts n rest = (omega (arith, long, h .0), omega (arith, long, h .1)) in
     by-cases
-    (ltb p subsectionLength)
-    (λ t. let below = ltb-true p subsectionLength t in at-pilot labels (inserted n rest) many p (omega arith) below)
-    (λ f. rw (past p f) (at-more labels (inserted n rest) many q ∙ inserted-pilot n rest (parts-rest n labels h) q (omega (arith, e, past p f)) (omega (arith, past p f))))
-
-inserted-label : (n : ℕ) (labels : List ℕ) → Parts n labels → (p : ℕ) → p < length labels + n * subsectionPilots → p % subsectionLength < subsectionLabels
-    → getD (inserted n labels) p 0 ≡ getD labels (p / subsectionLength * subsectionLabels + p % subsectionLength) 0
-inserted-label zero labels h p inside at =
-    let e : p ≡ p / subsectionLength * subsectionLabels + p % subsectionLength = omega (arith, h .1) in
-    ap (λ (k : ℕ). getD labels k 0) e
-inserted-label (suc n) labels h p inside at =
-    let rest = drop subsectionLabels labels in
-    let many : subsectionLabels ≤ length labels = omega (arith, h .0) in
-    let q = p - subsectionLength in
-    let e = length-drop subsectionLabels labels in
-    let from : ℕ → ℕ = λ (k : ℕ). k / subsectionLength * subsectionLabels + k % subsectionLength in
-    by-cases
-    (ltb p subsectionLength)
+    (leb subsectionLength p)
     (λ t.
-    let below = ltb-true p subsectionLength t in
-    let same : p ≡ from p = omega arith in
-    at-label labels (inserted n rest) many p (omega arith) ∙ ap (λ (k : ℕ). getD labels k 0) same)
-    (λ f.
-    let same : subsectionLabels + from q ≡ from p = omega (arith, past p f) in
-    ap (λ (k : ℕ). getD (inserted (suc n) labels) k 0) (past p f)
-    ∙ at-more labels (inserted n rest) many q
-    ∙ inserted-label n rest (parts-rest n labels h) q (omega (arith, e, past p f)) (omega (arith, past p f))
-    ∙ getD-drop subsectionLabels labels (from q) 0
-    ∙ ap (λ (k : ℕ). getD labels k 0) same)
+    let q = p - subsectionLength in
+    let e : p ≡ subsectionLength + q = omega (arith, leb-true subsectionLength p t) in
+    rw e (at-more labels (inserted n rest) many q ∙ inserted-at n rest parts q (omega (arith, long, e)) ∙ standing-on labels q))
+    (λ f. in-first labels (inserted n rest) many p (leb-false subsectionLength p f))
 
 module _ (labels : List ℕ) where
   all-parts : Parts (length labels / subsectionLabels) labels
   all-parts = (omega arith, omega arith)
 
-  -- a pilot stands where the place, modulo the length of a sub-section, is past its labels
-  pub pilot-at : (p : ℕ) → p < pilotedLength (length labels) → subsectionLabels ≤ p % subsectionLength → getD (withPilots labels) p 0 ≡ pilot
+  pub with-at : (p : ℕ) → p < pilotedLength (length labels) → getD (withPilots labels) p 0 ≡ standing labels p
   unfolding withPilots
-  pilot-at p = inserted-pilot (length labels / subsectionLabels) labels all-parts p
-
-  -- else a label does
-  pub label-at : (p : ℕ) → p < pilotedLength (length labels) → p % subsectionLength < subsectionLabels
-      → getD (withPilots labels) p 0 ≡ getD labels (p / subsectionLength * subsectionLabels + p % subsectionLength) 0
-  unfolding withPilots
-  label-at p = inserted-label (length labels / subsectionLabels) labels all-parts p
+  with-at p inside = inserted-at (length labels / subsectionLabels) labels all-parts p inside
