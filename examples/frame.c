@@ -1,6 +1,7 @@
 /* A frame from sixteen blocks of test bits, of format 13 without pilots or of the format and the
  * choice of pilots that are given; prints the digests of its slots and of the labels found in them.
- *     cc -Iinclude examples/frame.c build/libsccc.a -o build/frame && build/frame && build/frame 37 1 */
+ *     cc -Iinclude examples/frame.c build/libsccc.a -o build/frame
+ *     build/frame && build/frame 37 1 */
 #include "sccc.h"
 
 #include <inttypes.h>
@@ -62,8 +63,8 @@ int main(int argc, char **argv)
     }
     pass("frame", sccc_frame(format, pilots, labels, SCCC_FRAME_LABELS, slots, length));
     const size_t n = receive(pilots, slots, length, found);
-    printf("format %" PRIu64 ", pilots %" PRIu64 ", frame digest %" PRIu64 ", labels digest %" PRIu64
-           "\n",
+    printf("format %" PRIu64 ", pilots %" PRIu64 ", frame digest %" PRIu64
+           ", labels digest %" PRIu64 "\n",
            format, pilots, digest(slots, length), digest(found, n));
     return EXIT_SUCCESS;
 }
