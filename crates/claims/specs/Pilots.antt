@@ -56,16 +56,16 @@ pub record Placed (f : ℕ) (labels : List ℕ) : Type 0 where
 abbrev pub Places : Type 0
 Places = (f : ℕ) → isFormat f ≡ true → (labels : List ℕ) → FrameLabels f labels → Placed f labels
 
--- without the pilots' slots, a frame with pilots has the slots of the frame without, but for the descriptor's, of which each bit is turned over
-pub record TakenOut (f : ℕ) (labels : List ℕ) : Type 0 where
-  pub long : length (withoutPilots (frame f pilotsOn labels)) ≡ length (frame f pilotsOff labels)
-  pub before : (s : ℕ) → s < markerLength → getD (withoutPilots (frame f pilotsOn labels)) s 0 ≡ getD (frame f pilotsOff labels) s 0
-  pub descriptor : (s : ℕ) → markerLength ≤ s → s < headerLength
-      → getD (withoutPilots (frame f pilotsOn labels)) s 0 + getD (frame f pilotsOff labels) s 0 ≡ headerZero + headerOne
-  pub behind : (s : ℕ) → headerLength ≤ s → getD (withoutPilots (frame f pilotsOn labels)) s 0 ≡ getD (frame f pilotsOff labels) s 0
+-- the slots a are as many as the slots b and the same, but for the descriptor's, of which each bit is turned over
+pub record Turned (a b : List ℕ) : Type 0 where
+  pub long : length a ≡ length b
+  pub before : (s : ℕ) → s < markerLength → getD a s 0 ≡ getD b s 0
+  pub descriptor : (s : ℕ) → markerLength ≤ s → s < headerLength → getD a s 0 + getD b s 0 ≡ headerZero + headerOne
+  pub behind : (s : ℕ) → headerLength ≤ s → getD a s 0 ≡ getD b s 0
 
+-- so are those of a frame with pilots, without the pilots' slots, and those of the frame without
 abbrev pub TakesOut : Type 0
-TakesOut = (f : ℕ) (labels : List ℕ) → TakenOut f labels
+TakesOut = (f : ℕ) (labels : List ℕ) → Turned (withoutPilots (frame f pilotsOn labels)) (frame f pilotsOff labels)
 
 -- the call passes them with either choice; and in every format there are some, zeros for one
 abbrev pub Passes : Type 0

@@ -2,7 +2,7 @@
 use mathlib.Core.Path.{_≡_, sym, ap, _∙_}
 use mathlib.Core.Bool.{true, false}
 use mathlib.Core.List.{List, [], _∷_, _++_, append-nil, append-assoc}
-use Prim.Native.Nat.{ℕ, zero, suc, _+_, _-_, _*_, _/_, _%_, _≤_, _<_}
+use Prim.Native.Nat.{ℕ, zero, suc, _+_, _-_, _*_, _%_, _≤_, _<_}
 use native.Mathlib.Nat.{add-zero}
 use native.Mathlib.Omega.{arith}
 use borrow.Author.Tests.{le-leb, lt-leb, leb-true, leb-false, ltb-true, ltb-false}
@@ -19,7 +19,7 @@ use Rattle.header.specs.Header.{header, headerLength, headerOne, headerZero}
 use Rattle.header.proofs.Headers.{header-length, header-low}
 use Rattle.pilots.specs.Pilots.{pilot, pilotedLength, pilots, subsectionLabels, subsectionLength, subsectionPilots, withPilots}
 use Rattle.pilots.proofs.Inserted.{with-append, with-length, with-next, with-rest}
-use Rattle.pilots.proofs.Places.{standing, with-at}
+use Rattle.pilots.proofs.Places.{labelAt, standing, with-at}
 use Rattle.framing.specs.Frame.{frame, section}
 use Rattle.framing.specs.Places.{isPilot, labelSlot, withoutFrom, withoutPilots}
 
@@ -78,7 +78,7 @@ without-next k labels more h =
     ∙ stays s front (pilots ++ more) (λ i below. on-label k i (omega (arith, below, long)))
     ∙ ap
     (λ (l : List ℕ). front ++ l)
-    (goes (s + length front) pilots more (λ i below. behind i below) ∙ ap (λ (n : ℕ). withoutFrom n more) past)
+    (goes (s + length front) pilots more behind ∙ ap (λ (n : ℕ). withoutFrom n more) past)
   where
     behind : (i : ℕ) → i < subsectionPilots → isPilot (headerLength + k * subsectionLength + length (take subsectionLabels labels) + i) ≡ true
     behind i below =
@@ -126,7 +126,7 @@ module _ (f : ℕ) (labels : List ℕ) where
   label-slot i h =
       let p = labelSlot i - headerLength in
       let low : p % subsectionLength < subsectionLabels = omega arith in
-      let e : p / subsectionLength * subsectionLabels + p % subsectionLength ≡ i = omega arith in
+      let e : labelAt p ≡ i = omega arith in
       behind-header (labelSlot i) (omega arith) (omega arith) ∙ rw (lt-leb _ _ low, e)
 
   pub pilot-slot : (s : ℕ) → s < headerLength + pilotedLength (length labels) → isPilot s ≡ true → getD (frame f pilotsOn labels) s 0 ≡ pilot
@@ -142,10 +142,9 @@ module _ (f : ℕ) (labels : List ℕ) where
       (leb headerLength s)
       (λ t.
       let p = s - headerLength in
-      let i = p / subsectionLength * subsectionLabels + p % subsectionLength in
       let no : leb subsectionLabels (p % subsectionLength) ≡ false = rw t at h in
-      let found : getD (frame f pilotsOn labels) s 0 ≡ getD labels i 0 = behind-header s (leb-true _ _ t) inside ∙ rw no in
-      omega (arith, found, legal-at top labels legal i, low))
+      let found : getD (frame f pilotsOn labels) s 0 ≡ getD labels (labelAt p) 0 = behind-header s (leb-true _ _ t) inside ∙ rw no in
+      omega (arith, found, legal-at top labels legal (labelAt p), low))
       (λ t.
       let found = List·getD-append (header f pilotsOn) (withPilots labels) 0 s (omega (arith, leb-false headerLength s t, header-length f pilotsOn)) in
       omega (arith, found, legal-at headerOne (header f pilotsOn) (header-low f pilotsOn) s))

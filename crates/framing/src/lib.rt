@@ -24,9 +24,9 @@ pub const PILOTS_ON: u64 = 1;
 // Labels of a frame, its slots without pilots, and with them.
 pub const FRAME_LABELS: usize = SECTIONS * SYMBOLS;
 
-pub const FRAME_LENGTH: usize = header::steps::LENGTH + FRAME_LABELS;
+const FRAME_LENGTH: usize = header::steps::LENGTH + FRAME_LABELS;
 
-pub const PILOT_FRAME_LENGTH: usize = FRAME_LENGTH
+const PILOT_FRAME_LENGTH: usize = FRAME_LENGTH
     + FRAME_LABELS / SUBSECTION_LABELS * SUBSECTION_PILOTS;
 
 // The frame of sixteen codewords' labels: marker and descriptor bits as 256 for 0 and 257 for 1, then the labels, and with pilots (choice 1)
@@ -68,8 +68,8 @@ fn check_frame(format: u64, pilots: u64, labels: &[u8], room: usize) -> u8
     checks::PASSED
 }
 
-// The slots of a frame with a pilot choice.
-fn frame_length(pilots: u64) -> usize
+// The slots of a frame with a pilot choice; of a number that is no choice, those of one without pilots.
+pub fn frame_length(pilots: u64) -> usize
     ensures { λ r. ⌜ r ≡ frameLength pilots ⌝ }
 {
     if pilots == PILOTS_ON {

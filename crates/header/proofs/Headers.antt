@@ -1,4 +1,4 @@
--- How the stores of marker and descriptor make the header.
+-- How the stores of marker and descriptor make the header, and what its slots are.
 use mathlib.Core.Path.{_≡_, refl, _∙_}
 use mathlib.Core.Bool.{true}
 use mathlib.Core.List.{List, [], _∷_, _++_, map-append}

@@ -11,12 +11,13 @@ use Rattle.bits.specs.Choice.{if_then_else_}
 use Rattle.bits.proofs.Cases.{by-cases}
 use Rattle.pilots.specs.Pilots.{inserted, pilot, pilotedLength, pilots, subsectionLabels, subsectionLength, subsectionPilots, withPilots}
 
+-- the number of the label at a place, if it is no pilot's
+abbrev pub labelAt : ℕ → ℕ
+labelAt p = p / subsectionLength * subsectionLabels + p % subsectionLength
+
 -- a pilot, where the place, modulo the length of a sub-section, is past its labels; else a label
 abbrev pub standing : List ℕ → ℕ → ℕ
-standing labels p =
-    if leb subsectionLabels (p % subsectionLength)
-    then pilot
-    else getD labels (p / subsectionLength * subsectionLabels + p % subsectionLength) 0
+standing labels p = if leb subsectionLabels (p % subsectionLength) then pilot else getD labels (labelAt p) 0
 
 -- the first sub-section, and what follows it
 module _ (labels : List ℕ) (more : List ℕ) (h : subsectionLabels ≤ length labels) where
@@ -50,11 +51,11 @@ module _ (labels : List ℕ) (more : List ℕ) (h : subsectionLabels ≤ length 
   in-first : (p : ℕ) → p < subsectionLength → getD (front ++ pilots ++ more) p 0 ≡ standing labels p
   in-first p below =
       let same : p % subsectionLength ≡ p = omega arith in
-      let first : p / subsectionLength * subsectionLabels + p ≡ p = omega arith in
+      let first : labelAt p ≡ p = omega arith in
       by-cases
       (leb subsectionLabels p)
       (λ t. rw (same, t) (at-pilot p (leb-true subsectionLabels p t) below))
-      (λ f. rw (same, f, first) (at-label p (leb-false subsectionLabels p f)))
+      (λ f. rw (first, same, f) (at-label p (leb-false subsectionLabels p f)))
 
 -- n sub-sections, and fewer labels over than another has
 abbrev Parts : ℕ → List ℕ → Type 0
@@ -64,13 +65,13 @@ Parts n labels = (n * subsectionLabels ≤ length labels) × (length labels < su
 standing-on : (labels : List ℕ) (p : ℕ) → standing (drop subsectionLabels labels) p ≡ standing labels (subsectionLength + p)
 standing-on labels p =
     let here : (subsectionLength + p) % subsectionLength ≡ p % subsectionLength = omega arith in
-    let there : subsectionLabels + (p / subsectionLength * subsectionLabels + p % subsectionLength) ≡ (subsectionLength + p) / subsectionLength * subsectionLabels + p % subsectionLength = omega arith in
-    rw (here, ← there, getD-drop subsectionLabels labels (p / subsectionLength * subsectionLabels + p % subsectionLength) 0)
+    let there : subsectionLabels + labelAt p ≡ labelAt (subsectionLength + p) = omega arith in
+    rw (← there, here, getD-drop subsectionLabels labels (labelAt p) 0)
 
 inserted-at : (n : ℕ) (labels : List ℕ) → Parts n labels → (p : ℕ) → p < length labels + n * subsectionPilots → getD (inserted n labels) p 0 ≡ standing labels p
 inserted-at zero labels h p inside =
     let low : p % subsectionLength < subsectionLabels = omega (arith, h .1) in
-    let e : p / subsectionLength * subsectionLabels + p % subsectionLength ≡ p = omega (arith, h .1) in
+    let e : labelAt p ≡ p = omega (arith, h .1) in
     rw (lt-leb _ _ low, e)
 inserted-at (suc n) labels h p inside =
     let rest = drop subsectionLabels labels in

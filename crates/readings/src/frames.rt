@@ -6,9 +6,6 @@ use crate::buffers::set_last;
 use crate::row::Row;
 use acm::SYMBOLS;
 use compare::Comparison;
-use framing::FRAME_LENGTH;
-use framing::PILOT_FRAME_LENGTH;
-use framing::PILOTS_ON;
 use testkit::UNTOUCHED;
 use testkit::bytes;
 use testkit::front;
@@ -26,16 +23,7 @@ pub(crate) fn frame(row: Row) {
         front_slots(&mut slots, row.f),
     );
     print_field(number as u64);
-    print_changed_slots(&slots, length(row.c as u64));
-}
-
-// The slots of a frame with a pilot choice.
-fn length(pilots: u64) -> usize {
-    if pilots == PILOTS_ON {
-        PILOT_FRAME_LENGTH
-    } else {
-        FRAME_LENGTH
-    }
+    print_changed_slots(&slots, framing::frame_length(row.c as u64));
 }
 
 // Labels 0 but for one place. The row has the number, the length of the part, and its first and last label.

@@ -1,8 +1,6 @@
 // For every ACM format, without pilots and with them, the digests of the frame marker, the frame descriptor, the labels of sixteen seeded
 // blocks, and their frame.
 use framing::FRAME_LABELS;
-use framing::FRAME_LENGTH;
-use framing::PILOT_FRAME_LENGTH;
 use framing::PILOTS_OFF;
 use framing::PILOTS_ON;
 use libc::STDOUT_FILENO;
@@ -12,10 +10,10 @@ use testkit::front_mut;
 use testkit::least;
 use testkit::print_field;
 
-// Bits of the frame marker; those of the frame descriptor stand between it and the labels.
+// Bits of the frame marker, and those with the frame descriptor's.
 const MARKER: usize = 256;
 
-const HEADER: usize = FRAME_LENGTH - FRAME_LABELS;
+const HEADER: usize = MARKER + 64;
 
 // What counts of a slot: of a header's bit, 256 or 257, the last; else the whole.
 const LAST_BIT: u16 = 1;
@@ -37,26 +35,16 @@ pub(crate) fn run() {
 fn print_frames(format: u64) {
     let mut labels = bytes(0);
     put_sections(format, front_mut(&mut labels, FRAME_LABELS));
-    print_frame(
-        format,
-        PILOTS_OFF,
-        front(&labels, FRAME_LABELS),
-        FRAME_LENGTH,
-    );
-    print_frame(
-        format,
-        PILOTS_ON,
-        front(&labels, FRAME_LABELS),
-        PILOT_FRAME_LENGTH,
-    );
+    print_frame(format, PILOTS_OFF, front(&labels, FRAME_LABELS));
+    print_frame(format, PILOTS_ON, front(&labels, FRAME_LABELS));
 }
 
-fn print_frame(format: u64, pilots: u64, labels: &[u8], length: usize) {
+fn print_frame(format: u64, pilots: u64, labels: &[u8]) {
     let mut slots = testkit::slots(0);
     framing::frame(format, pilots, labels, &mut slots);
     io::print_decimal(STDOUT_FILENO, format);
     print_field(pilots);
-    print_digests(labels, &slots, length);
+    print_digests(labels, &slots, framing::frame_length(pilots));
 }
 
 fn print_digests(labels: &[u8], slots: &[u16], length: usize) {
