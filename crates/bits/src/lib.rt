@@ -1,4 +1,6 @@
 // Bits as bytes, and the numbers of the checks: what more than one layer uses.
+#![tactic(auto)]
+
 ghost use Rattle.std.specs.Prelude.{◌≡◌};
 ghost use Rattle.bits.specs.Sum.{◌⊕◌};
 ghost use Rattle.bits.specs.Legal.{all_at_most};
