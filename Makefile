@@ -1,13 +1,14 @@
 # make            prove every crate, build the programs and run them
-# make bench      prove and build bench, and no more than it is made of
-# make test       the gate: `rt ci`, from nothing and with the must-fail edits, then every test of what it has built
-# make tests      the tests alone, on what is proved
+# make bench      prove, build and run bench, and prove no more than it is made of
+# make test       the gate: `rt ci`, with the must-fail edits, then every test of what rt builds, and each wrong program by itself
+# make tests      the tests alone, on bench and the library
+# make refusals   each wrong program of the must-fail edits by itself, alone
 # make lib        build/libsccc.a and build/libsccc.so
 # make speed      time the library's calls beside a plain encoder's
 # make tables     write annex C's tables anew from data/annex-c.csv, and the expected output that rests on them
 # make expected   write the test programs' expected output anew, by the separately written encoder
 # Each installs what it needs and the machine lacks, or says in a line what to install.
-.PHONY: all bench test tests first-half second-half lib speed tables expected oracle packages
+.PHONY: all bench test tests refusals first-half second-half lib speed tables expected oracle packages
 
 oracle = tests/oracle/target/release/oracle
 cargo_flags = --quiet --release --offline --manifest-path
@@ -24,11 +25,11 @@ unexport SCCC_LIBRARY SCCC_LIB_DIR CARGO_TARGET_DIR
 
 all:
 	@tools/packages rt
-	rt check
+	rt all test
 
 bench:
 	@tools/packages rt
-	rt check bench
+	cd crates/bench && rt run < stdin
 
 # What is lacking is found before anything is proved.
 test: packages
@@ -36,9 +37,13 @@ test: packages
 
 # Two halves that need nothing of each other, side by side.
 tests: packages
-	rt check bench
+	$(MAKE) --no-print-directory bench
 	$(MAKE) --no-print-directory --output-sync=target -j2 oracle lib
 	$(MAKE) --no-print-directory --output-sync=target -j2 first-half second-half
+
+refusals:
+	@tools/packages rt
+	tests/refusals
 
 first-half:
 	tests/c/run

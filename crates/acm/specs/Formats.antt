@@ -1,7 +1,6 @@
 -- The ACM formats (table 4-3; 28 to 37 by tables 3-1, 4-1 and 5-3 of 004) with their soft share (document 02, L7), and the lookup's answer.
-use Rattle.std.specs.Prelude.{◌≡◌, Bool, ◌&&◌, List, [], ◌∷◌, ℕ, ◌+◌, ◌-◌, ◌*◌, ◌^◌, leb, get_or}
+use Rattle.std.specs.Prelude.{◌≡◌, Bool, ◌&&◌, List, [], ◌∷◌, ℕ, ◌+◌, ◌-◌, ◌*◌, ◌^◌, leb, get_or, if◌then◌else◌}
 use Rattle.bits.specs.Checks.{passed, bad_format}
-use Rattle.bits.specs.Choice.{if◌then◌else◌}
 use Rattle.acm.specs.declared.table.Format.{Format}
 use Rattle.acm.specs.declared.Found.{Found}
 use Rattle.acm.specs.declared.Found.TheVariants.{Record, NoFormat}

@@ -1,4 +1,6 @@
 // The 37 ACM formats (tables 4-1 and 4-3; 28 to 37 by 004).
+#![tactic(auto)]
+
 ghost use Rattle.std.specs.Prelude.{◌≡◌};
 ghost use Rattle.acm.specs.Formats.{answer_of, looked_up, top_label};
 

@@ -3,7 +3,7 @@ ghost use Rattle.std.specs.Prelude.{◌≡◌};
 ghost use Rattle.acm.specs.Table.{record_of};
 
 // The record of an ACM format: its line of document 01's listing, its soft share, and the rest of its line of table 4-3 or 4-1 of 004. All lengths are in bits.
-#[derive(Drop)]
+#[derive(Clone, Copy)]
 pub struct Format {
     // the format's own number
     pub number: u64,
@@ -32,7 +32,7 @@ pub struct Format {
 }
 
 // The same as the table has it: no number takes more than 16 bits, and a short table is laid out sooner at a lookup.
-#[derive(Drop)]
+#[derive(Clone, Copy)]
 pub struct Row {
     pub number: u16,
     pub m: u16,

@@ -1,6 +1,5 @@
 -- The vectors of annex C, and the sizes found by their W.
-use Rattle.std.specs.Prelude.{◌≡◌, Bool, false, ◌||◌, List, [], ◌∷◌, ℕ, ◌≤◌, ◌<◌, eqb, length, get_or}
-use Rattle.bits.specs.Choice.{if◌then◌else◌}
+use Rattle.std.specs.Prelude.{◌≡◌, Bool, false, ◌||◌, List, [], ◌∷◌, ℕ, ◌≤◌, ◌<◌, eqb, length, get_or, if◌then◌else◌}
 use Rattle.acm.specs.Formats.{M}
 use Rattle.annex_c.specs.Sizes.{Size, sizes}
 

@@ -1,6 +1,5 @@
 -- The flat tables of the code: the sizes of annex C one behind the other, and where a size stands.
-use Rattle.std.specs.Prelude.{◌≡◌, List, [], ◌∷◌, ◌++◌, map, ℕ, ◌+◌, eqb}
-use Rattle.bits.specs.Choice.{if◌then◌else◌}
+use Rattle.std.specs.Prelude.{◌≡◌, List, [], ◌∷◌, ◌++◌, map, ℕ, ◌+◌, eqb, if◌then◌else◌}
 use Rattle.annex_c.specs.Sizes.{Size, sizes}
 
 abbrev pub widths : List Size → List ℕ

@@ -1,2 +1,4 @@
 // Text in ASCII: words, numbers in decimal, and lines of numbers.
+#![tactic(auto)]
+
 pub mod steps;

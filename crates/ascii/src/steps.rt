@@ -1,8 +1,7 @@
 // Text in ASCII, put into a buffer. Opened to the layers above alone.
-ghost use Rattle.std.specs.Prelude.{◌≡◌, ◌+◌, ◌≤◌, ◌<◌, length};
+ghost use Rattle.std.specs.Prelude.{◌≡◌, ◌+◌, ◌≤◌, ◌<◌, length, if◌then◌else◌};
 ghost use Rattle.std.proofs.lemmas.List.Edits.{sets};
-ghost use Rattle.bits.specs.Choice.{if◌then◌else◌};
-ghost use Rattle.ascii.specs.Text.{comma, decimal, digit as digitOf, line, line_feed};
+ghost use Rattle.ascii.specs.Text.{comma, decimal, digit as digit_of, line, line_feed};
 
 pub const COMMA: u8 = b',';
 
@@ -79,7 +78,7 @@ fn digits(n: u64) -> usize
 
 fn digit(d: u64) -> u8
     requires { d < 10 }
-    ensures { result ≡ digitOf d }
+    ensures { result ≡ digit_of d }
 {
     ZERO + d as u8
 }

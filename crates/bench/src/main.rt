@@ -1,37 +1,57 @@
 // Reads a job line from standard input and prints its row, or the number of the check that refuses it (document 01).
+#![tactic(auto)]
+
+ghost use Rattle.std.specs.Prelude.{◌≤◌, length};
+
 use interleaver::Source;
 use job_line::Job;
-use libc::{STDERR_FILENO, STDIN_FILENO, STDOUT_FILENO};
+use std::io;
+use std::io::Read;
 
 // One byte more than the longest line: an input that fills it is refused, whatever follows, so the rest is not read.
 const INPUT: usize = job_line::LONGEST + 1;
 
-fn main() {
+fn main(rt: HostRuntime) -> io::Result<()> {
     let mut input = [0u8; INPUT];
-    let n = io::read_full(STDIN_FILENO, &mut input);
-    warn(&input[..n]);
-    print(&input[..n]);
+    let n = read_full(&rt, &mut input);
+    // A warning that cannot be written does not keep the row back.
+    let _ = warn(&rt, &input[..n]);
+    print(&rt, &input[..n])
+}
+
+// Reads until out is full, the input ends or a read fails, and answers how many bytes are at the front of out. So an input that cannot be read
+// counts as empty.
+fn read_full(rt: &impl Input, out: &mut [u8]) -> usize
+    ensures { result ≤ length out.new }
+{
+    let mut from = rt.reader();
+    let mut done = 0;
+    while done < out.len() {
+        let n = from.read(&mut out[done..]).unwrap_or(0);
+        if n == 0 {
+            break;
+        }
+        done += n;
+    }
+    done
 }
 
 // What job makes of the input, and nothing else.
-fn print(input: &[u8]) {
+fn print(rt: &impl Print, input: &[u8]) -> io::Result<()> {
     let mut out = [0u8; job::LONGEST_OUTPUT];
     let n = job::output(input, &mut out);
-    io::write_all(STDOUT_FILENO, &out[..n]);
+    rt.write_all(&out[..n])
 }
 
 // A line on standard error if the codeword is not the standard's.
-fn warn(input: &[u8]) {
+fn warn(rt: &impl Eprint, input: &[u8]) -> io::Result<()> {
     let Job::Run { format, pattern: _ } = job_line::parse(input) else {
-        return;
+        return Ok(());
     };
     let Source::StandIn = interleaver::provenance(format) else {
-        return;
+        return Ok(());
     };
-    io::write_all(STDERR_FILENO, b"warning: format ");
-    io::print_decimal(STDERR_FILENO, format);
-    io::write_all(
-        STDERR_FILENO,
-        b": rows of its interleaver stand in for published ones, so this codeword is not the standard's\n",
-    );
+    eprintln!(rt;
+        "warning: format {format}: rows of its interleaver stand in for published ones, so this codeword is not the standard's"
+    )
 }

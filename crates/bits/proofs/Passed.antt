@@ -8,7 +8,7 @@ use borrow.Author.Tests.{ltb-true, eq-eqb, ne_eqb, eqb-true}
 use lib.Dec.{eqb, ltb}
 use lib.ListN.{length, get_or}
 use Rattle.bits.specs.Checks.{Check, first_failed, passed}
-use Rattle.bits.specs.Choice.{if◌then◌else◌}
+use Rattle.std.specs.Prelude.{if◌then◌else◌}
 use Rattle.bits.proofs.Cases.{by_cases}
 use Rattle.bits.proofs.Table.{every, every-at, left-true, right_true}
 

@@ -1,6 +1,5 @@
 -- The checks of documents 01 ("Questions at the door") and 02 and their numbers; passed is the answer of a call that fails none.
-use Rattle.std.specs.Prelude.{Bool, List, [], ◌∷◌, ℕ}
-use Rattle.bits.specs.Choice.{if◌then◌else◌}
+use Rattle.std.specs.Prelude.{Bool, List, [], ◌∷◌, ℕ, if◌then◌else◌}
 
 abbrev pub passed : ℕ
 passed = 0

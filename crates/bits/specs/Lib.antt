@@ -1,5 +1,4 @@
 pub mod Checks
-pub mod Choice
 pub mod Digits
 pub mod Joined
 pub mod Legal

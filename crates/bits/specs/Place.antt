@@ -1,6 +1,5 @@
 -- Where a number stands in a list.
-use Rattle.std.specs.Prelude.{List, [], ◌∷◌, ℕ, suc, eqb}
-use Rattle.bits.specs.Choice.{if◌then◌else◌}
+use Rattle.std.specs.Prelude.{List, [], ◌∷◌, ℕ, suc, eqb, if◌then◌else◌}
 
 -- its first place, counted from 0; the list's length where there is none
 unfoldable pub place : ℕ → List ℕ → ℕ

@@ -20,10 +20,10 @@ parts : Parts
 parts = segments_join
 
 same_as_plain : SameAsPlain
-same_as_plain f block work out outerCuts innerCuts o i = record {
-  number = plain_number_lem f block outerCuts innerCuts o i (length work) (length out);
-  workspace = plain-workspace f block outerCuts innerCuts o i work out;
-  output = plain-output f block outerCuts innerCuts o i work out;
+same_as_plain f block work out outer_list inner_list o i = record {
+  number = plain_number_lem f block outer_list inner_list o i (length work) (length out);
+  workspace = plain-workspace f block outer_list inner_list o i work out;
+  output = plain-output f block outer_list inner_list o i work out;
 }
 
 cuttable : Cuttable

@@ -10,7 +10,7 @@ use lib.Dec.{eqb}
 use lib.ListN.{length, get_or, take, drop, length-append, length-drop, length-replicate}
 use lib.Seq.{get_or-append-add, get_or-drop, get_or-take, ext_get_or, length-take-le}
 use Rattle.bits.specs.Checks.{passed}
-use Rattle.bits.specs.Choice.{if◌then◌else◌}
+use Rattle.std.specs.Prelude.{if◌then◌else◌}
 use Rattle.bits.proofs.Cases.{by_cases}
 use Rattle.bits.proofs.Legal.{legal_repeated}
 use Rattle.bits.proofs.Same.{same_self}

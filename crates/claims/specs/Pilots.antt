@@ -1,7 +1,6 @@
 -- Document 02, L9: pilots.
-use Rattle.std.specs.Prelude.{◌≡◌, true, List, [], ◌∷◌, ◌++◌, ◌↔◌, ℕ, ◌+◌, ◌*◌, ◌≤◌, ◌<◌, leb, eqb, length, get_or, take, drop, replicate}
+use Rattle.std.specs.Prelude.{◌≡◌, true, List, [], ◌∷◌, ◌++◌, ◌↔◌, ℕ, ◌+◌, ◌*◌, ◌≤◌, ◌<◌, leb, eqb, length, get_or, take, drop, replicate, if◌then◌else◌}
 use Rattle.bits.specs.Checks.{◌or_else◌, first_failed, passed, bad_format, bad_length, bad_element, short_output}
-use Rattle.bits.specs.Choice.{if◌then◌else◌}
 use Rattle.bits.specs.Legal.{all_at_most}
 use Rattle.acm.specs.Formats.{symbols, is_format, top_label}
 use Rattle.header.specs.Marker.{marker_length, marker}

@@ -24,15 +24,15 @@ abbrev pub Parts : Type 0
 Parts = (bits cuts : List ℕ) → is_inside (length bits) cuts ≡ true → joined (segments cuts bits) ≡ bits
 
 -- with any two such lists of at most fifteen cuts, the call answers encode's number and leaves its bytes, when it is refused too
-pub record Plain (f : ℕ) (block work out outerCuts innerCuts : List ℕ) : Type 0 where
-  pub number : segments_number f block (length work) (length out) outerCuts innerCuts ≡ encode_number f block (length work) (length out)
-  pub workspace : segments_workspace f block work out outerCuts innerCuts ≡ encode_workspace f block work out
-  pub output : segments_output f block work out outerCuts innerCuts ≡ encode_output f block work out
+pub record Plain (f : ℕ) (block work out outer_list inner_list : List ℕ) : Type 0 where
+  pub number : segments_number f block (length work) (length out) outer_list inner_list ≡ encode_number f block (length work) (length out)
+  pub workspace : segments_workspace f block work out outer_list inner_list ≡ encode_workspace f block work out
+  pub output : segments_output f block work out outer_list inner_list ≡ encode_output f block work out
 
 abbrev pub SameAsPlain : Type 0
 SameAsPlain =
-    (f : ℕ) (block work out outerCuts innerCuts : List ℕ) → Cuts (format_of f).k1 outerCuts → Cuts (format_of f).i innerCuts
-    → Plain f block work out outerCuts innerCuts
+    (f : ℕ) (block work out outer_list inner_list : List ℕ) → Cuts (format_of f).k1 outer_list → Cuts (format_of f).i inner_list
+    → Plain f block work out outer_list inner_list
 
 -- and there are such lists: none to fifteen cuts at any place
 abbrev pub Cuttable : Type 0

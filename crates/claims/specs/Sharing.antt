@@ -1,7 +1,6 @@
 -- Document 02, L10: two channels, one interleaver memory.
-use Rattle.std.specs.Prelude.{◌≡◌, Bool, true, false, List, [], ◌∷◌, map, ◌↔◌, ℕ, ◌≤◌, ◌<◌, eqb, leb, length, get_or, replicate}
+use Rattle.std.specs.Prelude.{◌≡◌, Bool, true, false, List, [], ◌∷◌, map, ◌↔◌, ℕ, ◌≤◌, ◌<◌, eqb, leb, length, get_or, replicate, if◌then◌else◌}
 use Rattle.bits.specs.Checks.{◌or_else◌, first_failed, passed, short_memory}
-use Rattle.bits.specs.Choice.{if◌then◌else◌}
 use Rattle.acm.specs.Formats.{is_format, format_of}
 use Rattle.interleaver.specs.Interleaver.{π}
 use Rattle.interleaver.specs.Expanded.{expands}

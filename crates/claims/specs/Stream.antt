@@ -1,7 +1,6 @@
 -- Document 02, L1 and L4: calls on a slicer, each given slicer and memory as the last left them.
-use Rattle.std.specs.Prelude.{◌≡◌, true, List, [], ◌∷◌, ◌++◌, ◌↔◌, ℕ, ◌≤◌, ◌<◌, eqb, length, take}
+use Rattle.std.specs.Prelude.{◌≡◌, true, List, [], ◌∷◌, ◌++◌, ◌↔◌, ℕ, ◌≤◌, ◌<◌, eqb, length, take, if◌then◌else◌}
 use Rattle.bits.specs.Checks.{passed}
-use Rattle.bits.specs.Choice.{if◌then◌else◌}
 use Rattle.bits.specs.Joined.{joined}
 use Rattle.acm.specs.Formats.{is_format}
 use Rattle.transfer.specs.Transfer.{stream}

@@ -1,7 +1,6 @@
 -- The inner encoder, a bit at a time: the trellis' state, where each register goes on, and the counter of rate matching.
-use Rattle.std.specs.Prelude.{List, ℕ, ◌+◌, eqb, set}
+use Rattle.std.specs.Prelude.{List, ℕ, ◌+◌, eqb, set, if◌then◌else◌}
 use Rattle.std.proofs.lemmas.List.Edits.{sets}
-use Rattle.bits.specs.Choice.{if◌then◌else◌}
 use Rattle.trellis.specs.Trellis.{State, parity, next, parities, termination}
 use Rattle.puncture.specs.Puncture.{counted}
 use Rattle.coder.specs.declared.steps.Coder.{Coder}

@@ -1,6 +1,5 @@
 // Opened to the inner encoder alone: one bit, and the terminating steps.
-ghost use Rattle.std.specs.Prelude.{◌≡◌, ◌+◌, ◌^◌, ◌≤◌, ◌<◌, length, set, eqb};
-ghost use Rattle.bits.specs.Choice.{if◌then◌else◌};
+ghost use Rattle.std.specs.Prelude.{◌≡◌, ◌+◌, ◌^◌, ◌≤◌, ◌<◌, length, set, eqb, if◌then◌else◌};
 ghost use Rattle.coder.specs.Coder.{turned, stored, finished};
 
 // Where the inner encoder stands: the trellis' state x0, x1, where each register goes on, and the counter of rate matching.

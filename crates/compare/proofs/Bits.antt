@@ -11,7 +11,7 @@ use lib.Bits.{bit_xor, xor_lt, xor_shr, xor_add_and}
 use lib.Count.{ones, ones_step, ones_cat}
 use lib.Dec.{eqb}
 use lib.Pow.{pow_mono, pow_pos, lt_of_le_ones}
-use Rattle.bits.specs.Choice.{if◌then◌else◌}
+use Rattle.std.specs.Prelude.{if◌then◌else◌}
 use Rattle.bits.specs.Legal.{all_at_most}
 use Rattle.bits.specs.Sum.{◌⊕◌, bit}
 use Rattle.bits.specs.Words.{bits_of}

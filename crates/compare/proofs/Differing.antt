@@ -6,7 +6,6 @@ use native.Mathlib.Omega.{arith}
 use borrow.Author.Tests.{eqb-true, eqb-false, eq-eqb, ne_eqb}
 use lib.Dec.{eqb}
 use lib.ListN.{length, get_or}
-use Rattle.bits.specs.Choice.{if◌then◌else◌}
 use Rattle.bits.proofs.Cases.{by_cases}
 use Rattle.compare.specs.Comparison.{differing, first_place}
 

@@ -9,7 +9,7 @@ use borrow.Author.Tests.{eqb-true, eq-eqb, ne_eqb}
 use lib.Dec.{eqb}
 use lib.ListN.{length}
 use Rattle.bits.specs.Checks.{passed, bad_length, bad_element}
-use Rattle.bits.specs.Choice.{if◌then◌else◌}
+use Rattle.std.specs.Prelude.{if◌then◌else◌}
 use Rattle.bits.specs.Legal.{all_at_most}
 use Rattle.bits.proofs.Cases.{by_cases}
 use Rattle.acm.specs.Formats.{symbols, format_of, top_label}

@@ -1,7 +1,6 @@
 -- Two label lists held against each other (document 01: the tally; document 02, L2: it counts bits).
-use Rattle.std.specs.Prelude.{Bool, true, false, not, List, [], ◌∷◌, ℕ, suc, ◌+◌, eqb, length}
+use Rattle.std.specs.Prelude.{Bool, true, false, not, List, [], ◌∷◌, ℕ, suc, ◌+◌, eqb, length, if◌then◌else◌}
 use Rattle.bits.specs.Checks.{Check, ◌or_else◌, first_failed, passed, bad_format, bad_length, bad_element}
-use Rattle.bits.specs.Choice.{if◌then◌else◌}
 use Rattle.bits.specs.Legal.{all_at_most}
 use Rattle.bits.specs.Words.{bits_of}
 use Rattle.acm.specs.Formats.{symbols, is_format, format_of, top_label}
@@ -66,5 +65,5 @@ answer_of (Refused number) = refused number
 abbrev pub compared : ℕ → List ℕ → List ℕ → Answer
 compared f a b =
     if not (eqb (compare_number f a b) passed) then refused (compare_number f a b)
-    else if eqb (differing a b) 0 then equal
-    else unequal (differing_bits (format_of f).m a b) (first_place a b)
+    else (if eqb (differing a b) 0 then equal
+    else unequal (differing_bits (format_of f).m a b) (first_place a b))

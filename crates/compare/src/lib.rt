@@ -1,4 +1,6 @@
 // Two label lists held against each other (document 01: the tally; document 02, L2: it counts bits).
+#![tactic(auto)]
+
 ghost use Rattle.std.specs.Prelude.{◌≡◌, length};
 ghost use Rattle.acm.specs.Formats.{symbols};
 ghost use Rattle.compare.specs.Comparison.{answer_of, compared, compare_number, apart, differing_bits, first_place};

@@ -15,7 +15,7 @@ use Rattle.bits.proofs.Table.{left-true, right_true}
 use Rattle.trellis.specs.Trellis.{State, zero-state, ◌⊕ₛ◌, state_number, state_of, next, ends}
 use Rattle.trellis.proofs.Linear.{ends-sum}
 use Rattle.trellis.proofs.Runs.{ends-append, ends-bits, state_back, end_back}
-use Rattle.cuts.specs.Cuts.{between, segments_from, segments, stops, end_state, end_states, start_states, rises_from, is_inside}
+use Rattle.cuts.specs.Cuts.{between, segments_from, stops, end_state, end_states, start_states, rises_from, is_inside}
 use Rattle.cuts.specs.Propagation.{propagated, following, worked_from, worked_out}
 
 -- steps without input are steps on zeros

@@ -1,4 +1,6 @@
 // Lists of cuts, which part the input of a trellis into segments (6), and the states of the segments.
+#![tactic(auto)]
+
 ghost use Rattle.std.specs.Prelude.{◌≡◌};
 ghost use Rattle.cuts.specs.Cuts.{is_few, is_inside};
 

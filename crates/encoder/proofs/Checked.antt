@@ -12,17 +12,17 @@ use Rattle.bits.proofs.Passed.{passes}
 use Rattle.acm.specs.Formats.{symbols, is_format, format_of}
 use Rattle.encoder.specs.Calls.{encode_checks, encode_number, labels_checks, labels_number}
 
-pub record EncodePassed (f : ℕ) (block : List ℕ) (workRoom outRoom : ℕ) : Type 0 where
+pub record EncodePassed (f : ℕ) (block : List ℕ) (work_room out_room : ℕ) : Type 0 where
   pub known : is_format f ≡ true
   pub long : length block ≡ (format_of f).k
   pub bits : all_bits block ≡ true
-  pub work-fits : (format_of f).i ≤ workRoom
-  pub out-fits : (format_of f).n ≤ outRoom
+  pub work-fits : (format_of f).i ≤ work_room
+  pub out-fits : (format_of f).n ≤ out_room
 
-pub encode_passed : (f : ℕ) (block : List ℕ) (workRoom outRoom : ℕ) → encode_number f block workRoom outRoom ≡ passed → EncodePassed f block workRoom outRoom
+pub encode_passed : (f : ℕ) (block : List ℕ) (work_room out_room : ℕ) → encode_number f block work_room out_room ≡ passed → EncodePassed f block work_room out_room
 unfolding encode_number
-encode_passed f block workRoom outRoom e =
-    let part = passes (encode_checks f block workRoom outRoom) (true or_else passed) refl e in
+encode_passed f block work_room out_room e =
+    let part = passes (encode_checks f block work_room out_room) (true or_else passed) refl e in
     record {
       known = part 0 (lit< tt);
       long = eqb-true _ _ (part 1 (lit< tt));

@@ -1,6 +1,5 @@
 -- The expanded interleaver, a column at a time: one column on, an interleaved position is W more, modulo I.
-use Rattle.std.specs.Prelude.{ℕ, ◌+◌, ◌-◌, ltb}
-use Rattle.bits.specs.Choice.{if◌then◌else◌}
+use Rattle.std.specs.Prelude.{ℕ, ◌+◌, ◌-◌, ltb, if◌then◌else◌}
 
 -- last is where the last bank starts, I - W
 abbrev pub column_on : ℕ → ℕ → ℕ → ℕ

@@ -8,7 +8,7 @@ use lib.Dec.{eqb}
 use lib.ListN.{length, get_or, drop, length-append, length-drop}
 use lib.Seq.{length-take-le, take_at, drop-append-add}
 use Rattle.bits.specs.Checks.{passed}
-use Rattle.bits.specs.Choice.{if◌then◌else◌}
+use Rattle.std.specs.Prelude.{if◌then◌else◌}
 use Rattle.bits.specs.Joined.{joined}
 use Rattle.bits.proofs.Cases.{by_cases}
 use Rattle.acm.specs.Formats.{symbols}

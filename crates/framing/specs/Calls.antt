@@ -1,7 +1,6 @@
 -- The calls: the number that each answers, and what it leaves in the output or hands back.
-use Rattle.std.specs.Prelude.{List, [], ◌∷◌, ◌++◌, ℕ, leb, ltb, eqb, length, drop}
+use Rattle.std.specs.Prelude.{List, [], ◌∷◌, ◌++◌, ℕ, leb, ltb, eqb, length, drop, if◌then◌else◌}
 use Rattle.bits.specs.Checks.{Check, ◌or_else◌, first_failed, passed, bad_format, bad_length, bad_element, short_output, bad_place, bad_pilots}
-use Rattle.bits.specs.Choice.{if◌then◌else◌}
 use Rattle.bits.specs.Legal.{all_at_most}
 use Rattle.acm.specs.Formats.{is_format, top_label}
 use Rattle.header.specs.Descriptor.{pilots_on}

@@ -1,6 +1,5 @@
 -- The frame (figure 5-1; 5.3), and a codeword section of its labels.
-use Rattle.std.specs.Prelude.{List, ◌++◌, ℕ, ◌+◌, ◌*◌, eqb, drop, take}
-use Rattle.bits.specs.Choice.{if◌then◌else◌}
+use Rattle.std.specs.Prelude.{List, ◌++◌, ℕ, ◌+◌, ◌*◌, eqb, drop, take, if◌then◌else◌}
 use Rattle.acm.specs.Formats.{symbols}
 use Rattle.header.specs.Descriptor.{pilots_on}
 use Rattle.header.specs.Header.{header_length, header}

@@ -1,6 +1,5 @@
 -- For a receiver: where labels and pilots stand in a frame with pilots. The marker's first slot is slot 0.
-use Rattle.std.specs.Prelude.{Bool, ◌&&◌, List, [], ◌∷◌, ℕ, suc, ◌+◌, ◌-◌, ◌*◌, ◌/◌, ◌%◌, leb}
-use Rattle.bits.specs.Choice.{if◌then◌else◌}
+use Rattle.std.specs.Prelude.{Bool, ◌&&◌, List, [], ◌∷◌, ℕ, suc, ◌+◌, ◌-◌, ◌*◌, ◌/◌, ◌%◌, leb, if◌then◌else◌}
 use Rattle.header.specs.Header.{header_length}
 use Rattle.pilots.specs.Pilots.{subsection_labels, subsection_length}
 

@@ -1,4 +1,6 @@
 // The physical layer frame (5): frame marker, frame descriptor and sixteen codeword sections.
+#![tactic(auto)]
+
 ghost use Rattle.std.specs.Prelude.{◌≡◌, true, ◌++◌, ◌≤◌, length, drop};
 ghost use Rattle.acm.specs.Formats.{is_format};
 ghost use Rattle.header.specs.Descriptor.{pilots_on};

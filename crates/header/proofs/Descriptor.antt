@@ -9,7 +9,7 @@ use borrow.Author.Tests.{eqb-true, eq-eqb, ne_eqb}
 use lib.Bits.{bit_xor}
 use lib.Dec.{eqb}
 use lib.ListN.{length, get_or, drop, replicate}
-use Rattle.bits.specs.Choice.{if◌then◌else◌}
+use Rattle.std.specs.Prelude.{if◌then◌else◌}
 use Rattle.bits.specs.Legal.{all_bits}
 use Rattle.bits.specs.Sum.{◌⊕*◌}
 use Rattle.bits.specs.Words.{bits_of}

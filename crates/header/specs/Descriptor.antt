@@ -1,6 +1,5 @@
 -- The frame descriptor (5.2.1; 004, 5.3.3, whose code has one row more).
-use Rattle.std.specs.Prelude.{List, [], ◌∷◌, ℕ, ◌*◌, ◌/◌, ◌%◌, eqb, replicate}
-use Rattle.bits.specs.Choice.{if◌then◌else◌}
+use Rattle.std.specs.Prelude.{List, [], ◌∷◌, ℕ, ◌*◌, ◌/◌, ◌%◌, eqb, replicate, if◌then◌else◌}
 use Rattle.bits.specs.Sum.{◌⊕*◌}
 
 -- bits of the (32, 7) code, each of which is sent twice

@@ -1,6 +1,5 @@
 -- The slots of the header: the marker (5.1), then the descriptor (5.2).
-use Rattle.std.specs.Prelude.{List, ◌++◌, map, ℕ, ◌+◌, eqb}
-use Rattle.bits.specs.Choice.{if◌then◌else◌}
+use Rattle.std.specs.Prelude.{List, ◌++◌, map, ℕ, ◌+◌, eqb, if◌then◌else◌}
 use Rattle.header.specs.Marker.{marker_length, marker}
 use Rattle.header.specs.Descriptor.{descriptor_length, descriptor}
 

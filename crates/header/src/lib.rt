@@ -1,2 +1,4 @@
 // The frame header (5.1, 5.2): marker and descriptor.
+#![tactic(auto)]
+
 pub mod steps;

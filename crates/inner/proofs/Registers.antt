@@ -8,7 +8,7 @@ use native.Mathlib.Numerals.{add-one}
 use native.Mathlib.Omega.{arith}
 use lib.ListN.{length, set, length-set}
 use lib.Seq.{sets, set_comm, set-set}
-use Rattle.bits.specs.Choice.{if◌then◌else◌}
+use Rattle.std.specs.Prelude.{if◌then◌else◌}
 
 -- a store behind the stretch that is still to be stored may come first
 set-sets : (l : List ℕ) (n : ℕ) (vs : List ℕ) (q y : ℕ) → n + length vs ≤ q → set (sets l n vs) q y ≡ sets (set l q y) n vs

@@ -3,7 +3,7 @@ ghost use Rattle.std.specs.Prelude.{◌≡◌, true, ◌++◌, ◌≤◌, length
 ghost use Rattle.acm.specs.Formats.{is_format, format_of, N1};
 ghost use Rattle.interleaver.specs.Interleaver.{π};
 ghost use Rattle.interleaver.specs.Expanded.{expands};
-ghost use Rattle.puncture.specs.Puncture.{pattern as patternOf};
+ghost use Rattle.puncture.specs.Puncture.{pattern as pattern_of};
 ghost use Rattle.inner.specs.Registers.{from_outer};
 ghost use Rattle.inner.specs.Left.{starting, completed, Fits};
 
@@ -24,7 +24,7 @@ pub fn encode(format: u64, memory: &[u16], work: &[u8], out: &mut [u8])
 
 // Runs the inner trellis over the interleaved bits, up to its termination.
 fn run(format: u64, memory: &[u16], pattern: &[u8], work: &[u8], out: &mut [u8]) -> Coder
-    requires format_value { (is_format format ≡ true) × (expands format memory.now ≡ true) × (pattern.now ≡ patternOf (format_of format).survivors) }
+    requires format_value { (is_format format ≡ true) × (expands format memory.now ≡ true) × (pattern.now ≡ pattern_of (format_of format).survivors) }
     requires format_in_bounds { ((format_of format).i ≤ length work.now) × (N1 (format_of format) ≤ length out.old) }
     ensures fits { Fits (format_of format) (π format) work.now (format_of format).i result }
     ensures out_after { completed (format_of format) (π format) work.now (format_of format).i result out.new ≡ completed (format_of format) (π format) work.now 0 (starting (format_of format)) out.old }

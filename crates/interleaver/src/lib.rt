@@ -1,4 +1,6 @@
 // The interleaver (4.3, annex C).
+#![tactic(auto)]
+
 ghost use Rattle.std.specs.Prelude.{◌≡◌, true, ◌*◌, ◌<◌, length};
 ghost use Rattle.acm.specs.Formats.{M};
 ghost use Rattle.annex_c.specs.AnnexC.{Vectors, is_size, size_of};

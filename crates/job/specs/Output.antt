@@ -1,7 +1,6 @@
 -- What the bench prints for a text on its standard input (document 01).
-use Rattle.std.specs.Prelude.{List, [], ◌∷◌, ◌++◌, ℕ, eqb}
+use Rattle.std.specs.Prelude.{List, [], ◌∷◌, ◌++◌, ℕ, eqb, if◌then◌else◌}
 use Rattle.bits.specs.Checks.{passed}
-use Rattle.bits.specs.Choice.{if◌then◌else◌}
 use Rattle.ascii.specs.Text.{ascii, line}
 use Rattle.row.specs.declared.steps.Row.{Row}
 use Rattle.row.specs.Row.{row_of}

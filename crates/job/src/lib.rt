@@ -3,7 +3,7 @@ ghost use Rattle.std.specs.Prelude.{◌≡◌, true, ◌≤◌, length};
 ghost use Rattle.acm.specs.Formats.{is_format};
 ghost use Rattle.ascii.specs.Text.{at_front};
 ghost use Rattle.row.specs.Row.{row_of};
-ghost use Rattle.job.specs.Output.{longest_output, output as outputOf, refusal_text, row_text};
+ghost use Rattle.job.specs.Output.{longest_output, output as output_of, refusal_text, row_text};
 
 use job_line::Job;
 
@@ -14,8 +14,8 @@ pub const LONGEST_OUTPUT: usize = 45;
 // Checks: those of job_line::parse.
 // Afterwards the front of out is the output, whose length is the answer, and the rest is as it was.
 pub fn output(text: &[u8], out: &mut [u8; LONGEST_OUTPUT]) -> usize
-    ensures length { result ≡ length (outputOf text.now) }
-    ensures printed { out.new ≡ at_front (outputOf text.now) out.old }
+    ensures length { result ≡ length (output_of text.now) }
+    ensures printed { out.new ≡ at_front (output_of text.now) out.old }
 {
     match job_line::parse(text) {
         Job::Run { format, pattern } => put_row(format, pattern, out),

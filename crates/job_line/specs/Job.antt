@@ -1,7 +1,6 @@
 -- The job that a text asks for, or the number of the check that refuses it: 6, then 1, then 7.
-use Rattle.std.specs.Prelude.{List, [], ◌∷◌, ℕ, eqb, ltb}
+use Rattle.std.specs.Prelude.{List, [], ◌∷◌, ℕ, eqb, ltb, if◌then◌else◌}
 use Rattle.bits.specs.Checks.{Check, ◌or_else◌, first_failed, passed, bad_format, bad_line, bad_pattern}
-use Rattle.bits.specs.Choice.{if◌then◌else◌}
 use Rattle.acm.specs.Formats.{is_format}
 use Rattle.job_line.specs.declared.Job.{Job}
 use Rattle.job_line.specs.declared.Job.TheVariants.{Run, Refused}

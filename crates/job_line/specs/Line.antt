@@ -1,6 +1,5 @@
 -- The job line (document 01): format, comma, pattern, line feed, end.
-use Rattle.std.specs.Prelude.{◌≡◌, Bool, true, ◌&&◌, List, [], ◌∷◌, map, ℕ, ◌+◌, ◌-◌, ◌*◌, ◌^◌, ◌<◌, leb, ltb, take, drop}
-use Rattle.bits.specs.Choice.{if◌then◌else◌}
+use Rattle.std.specs.Prelude.{◌≡◌, Bool, true, ◌&&◌, List, [], ◌∷◌, map, ℕ, ◌+◌, ◌-◌, ◌*◌, ◌^◌, ◌<◌, leb, ltb, take, drop, if◌then◌else◌}
 use Rattle.bits.specs.Digits.{value_from}
 use Rattle.bits.specs.Place.{place}
 use Rattle.bits.specs.Same.{same}

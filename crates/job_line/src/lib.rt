@@ -1,4 +1,6 @@
 // The job line of the bench (document 01, "The bench program").
+#![tactic(auto)]
+
 ghost use Rattle.std.specs.Prelude.{◌≡◌};
 ghost use Rattle.job_line.specs.Job.{answer_of, asked, numbers_number};
 

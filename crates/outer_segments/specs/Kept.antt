@@ -1,6 +1,5 @@
 -- The outer trellis's kept bits (4.2, figure 4-3), of a part of the run: which parities are kept goes by the step's number in the whole run.
-use Rattle.std.specs.Prelude.{List, [], ◌∷◌, ℕ, ◌+◌, ◌/◌, ◌%◌, eqb}
-use Rattle.bits.specs.Choice.{if◌then◌else◌}
+use Rattle.std.specs.Prelude.{List, [], ◌∷◌, ℕ, ◌+◌, ◌/◌, ◌%◌, eqb, if◌then◌else◌}
 use Rattle.trellis.specs.Trellis.{State, parity, next}
 
 -- from the i-th step on

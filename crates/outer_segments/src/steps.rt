@@ -1,7 +1,6 @@
 // Opened to the segmented encoder alone: the two passes over the outer trellis.
-ghost use Rattle.std.specs.Prelude.{◌≡◌, true, ◌++◌, ◌+◌, ◌%◌, ◌≤◌, ◌<◌, length, drop, set};
+ghost use Rattle.std.specs.Prelude.{◌≡◌, true, ◌++◌, ◌+◌, ◌%◌, ◌≤◌, ◌<◌, length, drop, set, if◌then◌else◌};
 ghost use Rattle.std.proofs.lemmas.List.Edits.{sets};
-ghost use Rattle.bits.specs.Choice.{if◌then◌else◌};
 ghost use Rattle.bits.specs.Legal.{all_bits};
 ghost use Rattle.trellis.specs.Trellis.{zero-state, state_number, state_of, ends, termination, outer};
 ghost use Rattle.cuts.specs.Cuts.{Cuts, end_state, end_states, start_states, padded, states_of};

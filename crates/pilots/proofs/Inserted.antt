@@ -45,4 +45,4 @@ with_append (suc n) a b e =
     let rest = drop subsection_labels a in
     let shorter : length rest ≡ n * subsection_labels = omega (arith, e, length-drop subsection_labels a) in
     with_next (a ++ b) (omega (arith, length-append a b))
-    ∙ rw (take-append-le subsection_labels a b h, drop-append-le subsection_labels a b h, with_append n rest b shorter, with_next a h, append_assoc)
+    ∙ rw (take-append-le subsection_labels a b h, drop-append-le subsection_labels a b h, with_append n rest b shorter, with_next a h) (simp append_assoc)

@@ -7,7 +7,7 @@ use borrow.Author.Tests.{lt-leb, leb-true, leb-false}
 use lib.Dec.{leb}
 use lib.ListN.{length, get_or, take, drop, length-append, length-drop, get_or-replicate, get_or-append}
 use lib.Seq.{get_or-append-add, get_or-take, get_or-drop, length-take-le}
-use Rattle.bits.specs.Choice.{if◌then◌else◌}
+use Rattle.std.specs.Prelude.{if◌then◌else◌}
 use Rattle.bits.proofs.Cases.{by_cases}
 use Rattle.pilots.specs.Pilots.{inserted, pilot, piloted_length, pilots, subsection_labels, subsection_length, subsection_pilots, with_pilots}
 

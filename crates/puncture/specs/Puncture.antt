@@ -1,6 +1,5 @@
 -- Coding rate adjustment (4.4, with Corrigendum 1): which bits of the two registers are kept.
-use Rattle.std.specs.Prelude.{◌≡◌, Bool, true, false, List, [], ◌∷◌, ℕ, ◌+◌, ◌-◌, ◌*◌, ◌%◌, ◌<◌, eqb, leb, ltb, length, get_or, replicate, set, take}
-use Rattle.bits.specs.Choice.{if◌then◌else◌}
+use Rattle.std.specs.Prelude.{◌≡◌, Bool, true, false, List, [], ◌∷◌, ℕ, ◌+◌, ◌-◌, ◌*◌, ◌%◌, ◌<◌, eqb, leb, ltb, length, get_or, replicate, set, take, if◌then◌else◌}
 use Rattle.puncture.specs.Table42.{positions}
 use Rattle.puncture.specs.declared.steps.Matching.{Matching}
 

@@ -1,6 +1,8 @@
 // Puncturing (4.4, with Corrigendum 1): the pattern of the upper register, and the rate matching of the lower.
+#![tactic(auto)]
+
 ghost use Rattle.std.specs.Prelude.{◌≡◌, ℕ, ◌-◌, ◌<◌, min, length, get_or};
-ghost use Rattle.puncture.specs.Puncture.{period, most_punctured, pattern as patternOf, LaidOut, zeroed};
+ghost use Rattle.puncture.specs.Puncture.{period, most_punctured, pattern as pattern_of, LaidOut, zeroed};
 
 pub mod steps;
 mod table;
@@ -16,7 +18,7 @@ const MOST_PUNCTURED: usize = 100;
 
 // The pattern of 300 for a survivor number: 0 where the upper register is punctured, 1 elsewhere.
 pub fn pattern(survivors: usize) -> [u8; PERIOD]
-    ensures { result ≡ patternOf survivors }
+    ensures { result ≡ pattern_of survivors }
 {
     let mut out = [1u8; PERIOD];
     let count = zeros(survivors);

@@ -1,16 +1,17 @@
 // Lists and buffers of so many elements, and what a call changed of a buffer.
+use std::io;
 use testkit::{UNTOUCHED, least, print_field};
 
 // How many of the first n bytes of a buffer a call has changed, and how many behind them.
-pub(crate) fn print_changed(list: &[u8], n: usize) {
-    print_field(changed(list, 0, n));
-    print_field(changed(list, n, list.len()));
+pub(crate) fn print_changed(rt: &impl Print, list: &[u8], n: usize) -> io::Result<()> {
+    print_field(rt, changed(list, 0, n))?;
+    print_field(rt, changed(list, n, list.len()))
 }
 
 // The same of 16-bit slots.
-pub(crate) fn print_changed_slots(list: &[u16], n: usize) {
-    print_field(changed_slots(list, 0, n));
-    print_field(changed_slots(list, n, list.len()));
+pub(crate) fn print_changed_slots(rt: &impl Print, list: &[u16], n: usize) -> io::Result<()> {
+    print_field(rt, changed_slots(list, 0, n))?;
+    print_field(rt, changed_slots(list, n, list.len()))
 }
 
 // How many bytes from the place `from` up to the place `to` are changed.

@@ -1,5 +1,5 @@
 // A row of the input: a word, whose first letter says which call to make, and the numbers for it, at most six.
-use libc::STDOUT_FILENO;
+use std::io;
 use std::num::wrapping_add_usize;
 
 // The letter is 0 at the start of a row. The numbers are the last six, the last of them in f; the word counts as a number too, which no call uses.
@@ -27,15 +27,15 @@ pub(crate) fn start() -> Row {
 }
 
 // The row with one byte more, which is printed; behind the last the call is made.
-pub(crate) fn take(row: Row, byte: u8) -> Row {
+pub(crate) fn take(rt: &impl Print, row: Row, byte: u8) -> io::Result<Row> {
     if byte == b'\n' {
-        crate::calls::make(row);
-        testkit::end_row();
-        return start();
+        crate::calls::make(rt, row)?;
+        testkit::end_row(rt)?;
+        return Ok(start());
     }
-    io::write_all(STDOUT_FILENO, &[byte]);
+    rt.write_all(&[byte])?;
     if byte == b',' {
-        return Row {
+        return Ok(Row {
             letter: row.letter,
             a: row.b,
             b: row.c,
@@ -43,9 +43,9 @@ pub(crate) fn take(row: Row, byte: u8) -> Row {
             d: row.e,
             e: row.f,
             f: 0,
-        };
+        });
     }
-    Row {
+    Ok(Row {
         letter: first(row.letter, byte),
         a: row.a,
         b: row.b,
@@ -53,7 +53,7 @@ pub(crate) fn take(row: Row, byte: u8) -> Row {
         d: row.d,
         e: row.e,
         f: longer(row.f, byte),
-    }
+    })
 }
 
 fn first(letter: u8, byte: u8) -> u8 {

@@ -1,7 +1,7 @@
 // The row of a job (document 01). Opened to the layers above alone.
 ghost use Rattle.std.specs.Prelude.{◌≡◌, true, ◌≤◌, ◌<◌, length, replicate};
 ghost use Rattle.acm.specs.Formats.{is_format, format_of};
-ghost use Rattle.encoder.specs.Codeword.{codeword as codewordOf};
+ghost use Rattle.encoder.specs.Codeword.{codeword as codeword_of};
 ghost use Rattle.row.specs.Row.{block as block_of, ones, row_of};
 
 // The patterns (document 01).
@@ -38,7 +38,7 @@ pub fn make(format: u64, pattern: u64) -> Row
 // The number of ones in the codeword of a pattern's block.
 fn codeword_ones(format: u64, f: acm::Format, pattern: u64) -> usize
     requires { (is_format format ≡ true) × (f ≡ format_of format) }
-    ensures { result ≡ ones (codewordOf format (block_of pattern f.k)) }
+    ensures { result ≡ ones (codeword_of format (block_of pattern f.k)) }
 {
     let mut block = [0u8; acm::MOST_K];
     let mut work = [0u8; acm::MOST_I];
@@ -56,7 +56,7 @@ fn encoded_ones(
     codeword: &mut [u8],
 ) -> usize
     requires { (is_format format ≡ true) × (f ≡ format_of format) × (f.k ≤ length block.old) × (f.i ≤ length work.old) × (f.n ≤ length codeword.old) }
-    ensures { result ≡ ones (codewordOf format (block_of pattern f.k)) }
+    ensures { result ≡ ones (codeword_of format (block_of pattern f.k)) }
 {
     let k = f.k;
     let n = f.n;

@@ -1,8 +1,7 @@
 -- The structs of the C interface: what the layer below answers, field by field. A refusal there has its number and 0 in every other field, and
 -- so has it here.
-use Rattle.std.specs.Prelude.{List, ℕ, ◌*◌, eqb}
+use Rattle.std.specs.Prelude.{List, ℕ, ◌*◌, eqb, if◌then◌else◌}
 use Rattle.bits.specs.Checks.{passed}
-use Rattle.bits.specs.Choice.{if◌then◌else◌}
 use Rattle.acm.specs.Formats as acm
 use Rattle.trellis.specs.declared.Ran.{Ran}
 use Rattle.trellis.specs.declared.Stepped as trellis

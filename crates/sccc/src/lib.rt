@@ -5,12 +5,12 @@
 ghost use Rattle.std.specs.Prelude.{◌≡◌, length};
 ghost use Rattle.acm.specs.Formats.{looked_up};
 ghost use Rattle.trellis.specs.Trellis.{stepped};
-ghost use Rattle.interleaver.specs.Interleaver.{interleaved_at, refused as refusedPosition};
+ghost use Rattle.interleaver.specs.Interleaver.{interleaved_at, refused as refused_position};
 ghost use Rattle.interleaver.specs.Provenance.{provenance_at};
 ghost use Rattle.encoder.specs.Calls.{encode_number, encode_workspace, encode_output, labels_number, labels_output};
 ghost use Rattle.framing.specs.Calls.{frame_number, frame_output};
-ghost use Rattle.compare.specs.Comparison.{compared, refused as refusedComparison};
-ghost use Rattle.sccc.specs.Structs.{info_struct, step_struct, position_struct, range_struct, refused as refusedRange, comparison_struct};
+ghost use Rattle.compare.specs.Comparison.{compared, refused as refused_comparison};
+ghost use Rattle.sccc.specs.Structs.{info_struct, step_struct, position_struct, range_struct, refused as refused_range, comparison_struct};
 
 use acm::Found;
 use bits::checks;
@@ -123,7 +123,7 @@ pub struct Interleaved {
 
 impl Interleaved {
     fn refused(number: u8) -> Self
-        ensures { result ≡ position_struct (refusedPosition number) }
+        ensures { result ≡ position_struct (refused_position number) }
     {
         Interleaved {
             number: number as u64,
@@ -197,7 +197,7 @@ pub struct SectionRange {
 
 impl SectionRange {
     fn refused(number: u8) -> Self
-        ensures { result ≡ refusedRange number }
+        ensures { result ≡ refused_range number }
     {
         SectionRange {
             number: number as u64,
@@ -238,7 +238,7 @@ pub struct Comparison {
 
 impl Comparison {
     fn refused(number: u8) -> Self
-        ensures { result ≡ comparison_struct (refusedComparison number) }
+        ensures { result ≡ comparison_struct (refused_comparison number) }
     {
         Comparison {
             number: number as u64,

@@ -23,76 +23,76 @@ use Rattle.encoder.specs.Calls.{encode_number, encode_workspace, encode_output}
 use Rattle.cuts.specs.Cuts.{is_few, is_inside, Cuts}
 use Rattle.segments.specs.Calls.{cuts_checks, segments_number, segments_workspace, segments_output}
 
-module _ (f : ℕ) (block : List ℕ) (workRoom outRoom : ℕ) (outerCuts innerCuts : List ℕ) where
+module _ (f : ℕ) (block : List ℕ) (work_room out_room : ℕ) (outer_list inner_list : List ℕ) where
   -- encode's checks decide where one of them fails, and else those of the cuts
-  pub encode_first : (encode_number f block workRoom outRoom ≡ passed → ⊥) → encode_number f block workRoom outRoom ≡ segments_number f block workRoom outRoom outerCuts innerCuts
+  pub encode_first : (encode_number f block work_room out_room ≡ passed → ⊥) → encode_number f block work_room out_room ≡ segments_number f block work_room out_room outer_list inner_list
   unfolding segments_number
-  encode_first e = when_refused (encode_number f block workRoom outRoom) (first_failed (cuts_checks f outerCuts innerCuts)) (encode_number f block workRoom outRoom) e
+  encode_first e = when_refused (encode_number f block work_room out_room) (first_failed (cuts_checks f outer_list inner_list)) (encode_number f block work_room out_room) e
 
-  cuts_later : encode_number f block workRoom outRoom ≡ passed → first_failed (cuts_checks f outerCuts innerCuts) ≡ segments_number f block workRoom outRoom outerCuts innerCuts
+  cuts_later : encode_number f block work_room out_room ≡ passed → first_failed (cuts_checks f outer_list inner_list) ≡ segments_number f block work_room out_room outer_list inner_list
   unfolding segments_number
-  cuts_later e = when_passed (encode_number f block workRoom outRoom) (first_failed (cuts_checks f outerCuts innerCuts)) (encode_number f block workRoom outRoom) e
+  cuts_later e = when_passed (encode_number f block work_room out_room) (first_failed (cuts_checks f outer_list inner_list)) (encode_number f block work_room out_room) e
 
   -- the exits behind encode's checks
-  module _ (encodes : encode_number f block workRoom outRoom ≡ passed) where
-    pub many_outer : is_few outerCuts ≡ false → many_cuts ≡ segments_number f block workRoom outRoom outerCuts innerCuts
+  module _ (encodes : encode_number f block work_room out_room ≡ passed) where
+    pub many_outer : is_few outer_list ≡ false → many_cuts ≡ segments_number f block work_room out_room outer_list inner_list
     many_outer o = rw (← cuts_later encodes, o)
 
-    module _ (o : is_few outerCuts ≡ true) where
-      pub many_inner : is_few innerCuts ≡ false → many_cuts ≡ segments_number f block workRoom outRoom outerCuts innerCuts
+    module _ (o : is_few outer_list ≡ true) where
+      pub many_inner : is_few inner_list ≡ false → many_cuts ≡ segments_number f block work_room out_room outer_list inner_list
       many_inner i = rw (← cuts_later encodes, o, i)
 
-      module _ (i : is_few innerCuts ≡ true) {r : Format} (is : r ≡ format_of f) where
-        pub bad_outer : is_inside r.k1 outerCuts ≡ false → bad_cut ≡ segments_number f block workRoom outRoom outerCuts innerCuts
+      module _ (i : is_few inner_list ≡ true) {r : Format} (is : r ≡ format_of f) where
+        pub bad_outer : is_inside r.k1 outer_list ≡ false → bad_cut ≡ segments_number f block work_room out_room outer_list inner_list
         bad_outer p = rw (← cuts_later encodes, o, i, ← is, p)
 
-        pub bad_inner : is_inside r.k1 outerCuts ≡ true → is_inside r.i innerCuts ≡ false → bad_cut ≡ segments_number f block workRoom outRoom outerCuts innerCuts
+        pub bad_inner : is_inside r.k1 outer_list ≡ true → is_inside r.i inner_list ≡ false → bad_cut ≡ segments_number f block work_room out_room outer_list inner_list
         bad_inner p q = rw (← cuts_later encodes, o, i, ← is, p, q)
 
-        pub all_sound : is_inside r.k1 outerCuts ≡ true → is_inside r.i innerCuts ≡ true → passed ≡ segments_number f block workRoom outRoom outerCuts innerCuts
+        pub all_sound : is_inside r.k1 outer_list ≡ true → is_inside r.i inner_list ≡ true → passed ≡ segments_number f block work_room out_room outer_list inner_list
         all_sound p q = rw (← cuts_later encodes, o, i, ← is, p, q)
 
   pub record SegmentsPassed : Type 0 where
-    pub encodes : encode_number f block workRoom outRoom ≡ passed
-    pub outer_cuts : Cuts (format_of f).k1 outerCuts
-    pub inner_cuts : Cuts (format_of f).i innerCuts
+    pub encodes : encode_number f block work_room out_room ≡ passed
+    pub outer_cuts : Cuts (format_of f).k1 outer_list
+    pub inner_cuts : Cuts (format_of f).i inner_list
 
-  pub segments-passed : segments_number f block workRoom outRoom outerCuts innerCuts ≡ passed → SegmentsPassed
+  pub segments-passed : segments_number f block work_room out_room outer_list inner_list ≡ passed → SegmentsPassed
   unfolding segments_number
   segments-passed e =
-      let encodes = passed-before (encode_number f block workRoom outRoom) (first_failed (cuts_checks f outerCuts innerCuts)) e in
-      let part = passes (cuts_checks f outerCuts innerCuts) (true or_else passed) refl (cuts_later encodes ∙ e) in
+      let encodes = passed-before (encode_number f block work_room out_room) (first_failed (cuts_checks f outer_list inner_list)) e in
+      let part = passes (cuts_checks f outer_list inner_list) (true or_else passed) refl (cuts_later encodes ∙ e) in
       let few = part 0 (lit< tt) in
       let inside = part 1 (lit< tt) in
       record {
         encodes = encodes;
         outer_cuts = record {
-          few = left-true (is_few outerCuts) (is_few innerCuts) few;
-          inside = left-true (is_inside (format_of f).k1 outerCuts) (is_inside (format_of f).i innerCuts) inside;
+          few = left-true (is_few outer_list) (is_few inner_list) few;
+          inside = left-true (is_inside (format_of f).k1 outer_list) (is_inside (format_of f).i inner_list) inside;
         };
         inner_cuts = record {
-          few = right_true (is_few outerCuts) (is_few innerCuts) few;
-          inside = right_true (is_inside (format_of f).k1 outerCuts) (is_inside (format_of f).i innerCuts) inside;
+          few = right_true (is_few outer_list) (is_few inner_list) few;
+          inside = right_true (is_inside (format_of f).k1 outer_list) (is_inside (format_of f).i inner_list) inside;
         };
       }
 
 -- with cuts that pass their checks the call is encode
-module _ (f : ℕ) (block : List ℕ) (outerCuts innerCuts : List ℕ) (o : Cuts (format_of f).k1 outerCuts) (i : Cuts (format_of f).i innerCuts) where
-  pub plain_number_lem : (workRoom outRoom : ℕ) → segments_number f block workRoom outRoom outerCuts innerCuts ≡ encode_number f block workRoom outRoom
-  plain_number_lem workRoom outRoom =
-      let n = encode_number f block workRoom outRoom in
+module _ (f : ℕ) (block : List ℕ) (outer_list inner_list : List ℕ) (o : Cuts (format_of f).k1 outer_list) (i : Cuts (format_of f).i inner_list) where
+  pub plain_number_lem : (work_room out_room : ℕ) → segments_number f block work_room out_room outer_list inner_list ≡ encode_number f block work_room out_room
+  plain_number_lem work_room out_room =
+      let n = encode_number f block work_room out_room in
       by_cases
       (eqb n passed)
-      (λ t. let e = eqb-true n passed t in sym (e ∙ all_sound f block workRoom outRoom outerCuts innerCuts e o.few i.few refl o.inside i.inside))
-      (λ h. sym (encode_first f block workRoom outRoom outerCuts innerCuts (eqb-false n passed h)))
+      (λ t. let e = eqb-true n passed t in sym (e ∙ all_sound f block work_room out_room outer_list inner_list e o.few i.few refl o.inside i.inside))
+      (λ h. sym (encode_first f block work_room out_room outer_list inner_list (eqb-false n passed h)))
 
-  pub plain-workspace : (work out : List ℕ) → segments_workspace f block work out outerCuts innerCuts ≡ encode_workspace f block work out
+  pub plain-workspace : (work out : List ℕ) → segments_workspace f block work out outer_list inner_list ≡ encode_workspace f block work out
   unfolding segments_workspace encode_workspace
   plain-workspace work out =
       let n = encode_number f block (length work) (length out) in
       rw (plain_number_lem (length work) (length out)) (by_cases (eqb n passed) (λ t. rw t) (λ h. rw h))
 
-  pub plain-output : (work out : List ℕ) → segments_output f block work out outerCuts innerCuts ≡ encode_output f block work out
+  pub plain-output : (work out : List ℕ) → segments_output f block work out outer_list inner_list ≡ encode_output f block work out
   unfolding segments_output encode_output
   plain-output work out =
       let n = encode_number f block (length work) (length out) in

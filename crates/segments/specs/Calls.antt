@@ -1,7 +1,6 @@
 -- Encoding by segments (document 02, L6): the number that the call answers, the states, and what it leaves in each buffer.
-use Rattle.std.specs.Prelude.{◌&&◌, List, [], ◌∷◌, ℕ, eqb, length}
+use Rattle.std.specs.Prelude.{◌&&◌, List, [], ◌∷◌, ℕ, eqb, length, if◌then◌else◌}
 use Rattle.bits.specs.Checks.{Check, ◌or_else◌, first_failed, passed, many_cuts, bad_cut}
-use Rattle.bits.specs.Choice.{if◌then◌else◌}
 use Rattle.acm.specs.Formats.{format_of}
 use Rattle.trellis.specs.Trellis.{outer}
 use Rattle.interleaver.specs.Interleaver.{π}
@@ -13,41 +12,41 @@ use Rattle.segments.specs.declared.Segmented.{Segmented}
 
 -- the checks of the two lists of cuts
 abbrev pub cuts_checks : ℕ → List ℕ → List ℕ → List Check
-cuts_checks f outerCuts innerCuts =
-    (is_few outerCuts && is_few innerCuts) or_else many_cuts
-    ∷ (is_inside (format_of f).k1 outerCuts && is_inside (format_of f).i innerCuts) or_else bad_cut
+cuts_checks f outer_list inner_list =
+    (is_few outer_list && is_few inner_list) or_else many_cuts
+    ∷ (is_inside (format_of f).k1 outer_list && is_inside (format_of f).i inner_list) or_else bad_cut
     ∷ []
 
 -- behind those of encode
 unfoldable pub segments_number : ℕ → List ℕ → ℕ → ℕ → List ℕ → List ℕ → ℕ
-segments_number f block workRoom outRoom outerCuts innerCuts =
-    if eqb (encode_number f block workRoom outRoom) passed
-    then first_failed (cuts_checks f outerCuts innerCuts)
-    else encode_number f block workRoom outRoom
+segments_number f block work_room out_room outer_list inner_list =
+    if eqb (encode_number f block work_room out_room) passed
+    then first_failed (cuts_checks f outer_list inner_list)
+    else encode_number f block work_room out_room
 
 abbrev pub refused : ℕ → Segmented
 refused number = record { number = number; outer = no_states; inner = no_states }
 
 -- the input of the outer trellis is the trellis part of the block, that of the inner one the interleaved outer kept bits
 unfoldable pub segmented : ℕ → List ℕ → ℕ → ℕ → List ℕ → List ℕ → Segmented
-segmented f block workRoom outRoom outerCuts innerCuts =
-    if eqb (segments_number f block workRoom outRoom outerCuts innerCuts) passed
+segmented f block work_room out_room outer_list inner_list =
+    if eqb (segments_number f block work_room out_room outer_list inner_list) passed
     then record {
       number = passed;
-      outer = states_of outerCuts (trellis_part f block);
-      inner = states_of innerCuts (interleaved (format_of f) (π f) (outer (trellis_part f block)));
+      outer = states_of outer_list (trellis_part f block);
+      inner = states_of inner_list (interleaved (format_of f) (π f) (outer (trellis_part f block)));
     }
-    else refused (segments_number f block workRoom outRoom outerCuts innerCuts)
+    else refused (segments_number f block work_room out_room outer_list inner_list)
 
 -- the buffers, as encode leaves them
 unfoldable pub segments_workspace : ℕ → List ℕ → List ℕ → List ℕ → List ℕ → List ℕ → List ℕ
-segments_workspace f block work out outerCuts innerCuts =
-    if eqb (segments_number f block (length work) (length out) outerCuts innerCuts) passed
+segments_workspace f block work out outer_list inner_list =
+    if eqb (segments_number f block (length work) (length out) outer_list inner_list) passed
     then encode_workspace f block work out
     else work
 
 unfoldable pub segments_output : ℕ → List ℕ → List ℕ → List ℕ → List ℕ → List ℕ → List ℕ
-segments_output f block work out outerCuts innerCuts =
-    if eqb (segments_number f block (length work) (length out) outerCuts innerCuts) passed
+segments_output f block work out outer_list inner_list =
+    if eqb (segments_number f block (length work) (length out) outer_list inner_list) passed
     then encode_output f block work out
     else out

@@ -14,12 +14,12 @@ use Rattle.interleaver.specs.Expanded.{expands}
 use Rattle.encoder.specs.Calls.{encode_number}
 use Rattle.sharing.specs.Calls.{memory_checks, shared_number}
 
-module _ (f : ℕ) (block : List ℕ) (workRoom outRoom : ℕ) (memory : List ℕ) (held : ℕ) where
+module _ (f : ℕ) (block : List ℕ) (work_room out_room : ℕ) (memory : List ℕ) (held : ℕ) where
   abbrev plain : ℕ
-  plain = encode_number f block workRoom outRoom
+  plain = encode_number f block work_room out_room
 
   abbrev number : ℕ
-  number = shared_number f block workRoom outRoom memory held
+  number = shared_number f block work_room out_room memory held
 
   -- encode's checks decide where one of them fails, and else those of the memory
   pub encode_first : (plain ≡ passed → ⊥) → plain ≡ number

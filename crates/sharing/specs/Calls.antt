@@ -1,8 +1,7 @@
 -- Encoding through an interleaver memory (document 02, L10): the number that the call answers, the size that the memory holds then, and what is left
 -- in each buffer.
-use Rattle.std.specs.Prelude.{true, List, [], ◌∷◌, ◌++◌, ℕ, eqb, leb, length, drop}
+use Rattle.std.specs.Prelude.{true, List, [], ◌∷◌, ◌++◌, ℕ, eqb, leb, length, drop, if◌then◌else◌}
 use Rattle.bits.specs.Checks.{Check, ◌or_else◌, first_failed, passed, bad_element, short_memory}
-use Rattle.bits.specs.Choice.{if◌then◌else◌}
 use Rattle.acm.specs.Formats.{format_of}
 use Rattle.interleaver.specs.Expanded.{expanded, expands}
 use Rattle.encoder.specs.Calls.{encode_number, encode_workspace, encode_output}
@@ -17,22 +16,22 @@ memory_checks f memory held =
 
 -- behind those of encode
 unfoldable pub shared_number : ℕ → List ℕ → ℕ → ℕ → List ℕ → ℕ → ℕ
-shared_number f block workRoom outRoom memory held =
-    if eqb (encode_number f block workRoom outRoom) passed
+shared_number f block work_room out_room memory held =
+    if eqb (encode_number f block work_room out_room) passed
     then first_failed (memory_checks f memory held)
-    else encode_number f block workRoom outRoom
+    else encode_number f block work_room out_room
 
 -- the answer: the memory holds the format's size, on refusal what it held
 unfoldable pub shared : ℕ → List ℕ → ℕ → ℕ → List ℕ → ℕ → Shared
-shared f block workRoom outRoom memory held =
-    if eqb (shared_number f block workRoom outRoom memory held) passed
+shared f block work_room out_room memory held =
+    if eqb (shared_number f block work_room out_room memory held) passed
     then record { number = passed; held = (format_of f).i }
-    else record { number = shared_number f block workRoom outRoom memory held; held = held }
+    else record { number = shared_number f block work_room out_room memory held; held = held }
 
 -- the memory: the format's expanded interleaver, and behind it what stood there
 unfoldable pub shared_memory : ℕ → List ℕ → ℕ → ℕ → List ℕ → ℕ → List ℕ
-shared_memory f block workRoom outRoom memory held =
-    if eqb (shared_number f block workRoom outRoom memory held) passed
+shared_memory f block work_room out_room memory held =
+    if eqb (shared_number f block work_room out_room memory held) passed
     then expanded f ++ drop (format_of f).i memory
     else memory
 

@@ -17,7 +17,7 @@ use Rattle.transfer.proofs.Marked.{marked_length}
 use Rattle.waiting.specs.Waiting.{advanced}
 use Rattle.slicer.specs.declared.Slicer.{Slicer}
 use Rattle.slicer.specs.Calls.{K, without_block, push_number, pushed, push_memory, block_number, BlockAnswer, handed, waits, refused, sliced, block_memory, block_output}
-use Rattle.slicer.specs.Change.{with_format, change_number, changed, yields, refused as refusedLook, looked}
+use Rattle.slicer.specs.Change.{with_format, change_number, changed, yields, refused as refused_look, looked}
 use Rattle.slicer.proofs.Checked.{push_passed, frame-fits}
 
 module _ (s : Slicer) (frame memory : List ℕ) where
@@ -112,7 +112,7 @@ module _ (s : Slicer) (f : ℕ) where
     unfolding changed
     change-refused = rw (ne_eqb _ _ n)
 
-    pub look_refused : refusedLook (change_number s f) ≡ looked s f
+    pub look_refused : refused_look (change_number s f) ≡ looked s f
     unfolding looked
     look_refused = rw (ne_eqb _ _ n)
 

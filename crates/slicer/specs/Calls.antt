@@ -1,7 +1,6 @@
 -- The slicer's calls (000, 3.4; document 02, L1): what each answers, and what it leaves in each buffer.
-use Rattle.std.specs.Prelude.{Bool, true, false, ◌&&◌, ◌||◌, not, List, [], ◌∷◌, ◌++◌, ℕ, ◌+◌, ◌-◌, eqb, leb, ltb, length, take, drop}
+use Rattle.std.specs.Prelude.{Bool, true, false, ◌&&◌, ◌||◌, not, List, [], ◌∷◌, ◌++◌, ℕ, ◌+◌, ◌-◌, eqb, leb, ltb, length, take, drop, if◌then◌else◌}
 use Rattle.bits.specs.Checks.{Check, ◌or_else◌, first_failed, passed, bad_format, short_output, bad_frame_length, other_frame_length, block_waits}
-use Rattle.bits.specs.Choice.{if◌then◌else◌}
 use Rattle.acm.specs.Formats.{is_format, format_of}
 use Rattle.transfer.specs.Transfer.{sync_marked}
 use Rattle.waiting.specs.Waiting.{waiting_checks, behind, advanced}
@@ -92,8 +91,8 @@ answer_of (Refused a) = refused a.number a.slicer
 unfoldable pub sliced : Slicer → List ℕ → ℕ → BlockAnswer
 sliced s memory room =
     if not (eqb (block_number s memory room) passed) then refused (block_number s memory room) s
-    else if ltb s.waiting (K s) then waits s
-    else handed (without_block s)
+    else (if ltb s.waiting (K s) then waits s
+    else handed (without_block s))
 
 unfoldable pub block_memory : Slicer → List ℕ → ℕ → List ℕ
 block_memory s memory room =

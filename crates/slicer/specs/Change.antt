@@ -1,7 +1,6 @@
 -- A change of format between blocks, and the look ahead (document 02, L4). Both read the slicer alone.
-use Rattle.std.specs.Prelude.{◌&&◌, List, [], ◌∷◌, ℕ, ◌/◌, ◌%◌, eqb, leb}
+use Rattle.std.specs.Prelude.{◌&&◌, List, [], ◌∷◌, ℕ, ◌/◌, ◌%◌, eqb, leb, if◌then◌else◌}
 use Rattle.bits.specs.Checks.{Check, ◌or_else◌, first_failed, passed, bad_format, bad_length}
-use Rattle.bits.specs.Choice.{if◌then◌else◌}
 use Rattle.acm.specs.Formats.{is_format, format_of}
 use Rattle.waiting.specs.Waiting.{memory_length}
 use Rattle.slicer.specs.declared.Slicer.{Slicer}

@@ -1,9 +1,11 @@
 // The slicer (000, 3.4): transfer frames in, information blocks out. Between the two the bits wait in memory that the caller lends.
 // Between blocks the format may change; a look tells beforehand what that would bring.
+#![tactic(auto)]
+
 ghost use Rattle.std.specs.Prelude.{◌≡◌, true, length};
 ghost use Rattle.acm.specs.Formats.{is_format};
 ghost use Rattle.slicer.specs.Calls.{fresh, K, fits_channel, push_number, pushed, push_memory, block_number, answer_of, sliced, block_memory, block_output};
-ghost use Rattle.slicer.specs.Change.{change_number, changed, answer_of as lookAnswerOf, looked};
+ghost use Rattle.slicer.specs.Change.{change_number, changed, answer_of as look_answer_of, looked};
 
 use bits::checks;
 use randomizer::steps::OCTET_LENGTH;
@@ -15,7 +17,7 @@ const LEAST_FRAME: usize = 223;
 const MOST_FRAME: usize = 65536;
 
 // A channel's slicer.
-#[derive(Drop)]
+#[derive(Clone, Copy)]
 pub struct Slicer {
     pub format: u64,
     // octets of each of the channel's frames, 0 before the first
@@ -25,14 +27,14 @@ pub struct Slicer {
 }
 
 // The number of the check that failed, 0 if none did, and the slicer: as it came, if one did.
-#[derive(Drop)]
+#[derive(Clone, Copy)]
 pub struct Answer {
     pub number: u8,
     pub slicer: Slicer,
 }
 
 // The answer of a call for a block.
-#[derive(Drop)]
+#[derive(Clone, Copy)]
 pub enum Sliced {
     // A block is handed out.
     Block(Slicer),
@@ -42,7 +44,7 @@ pub enum Sliced {
 }
 
 // The answer of a look ahead.
-#[derive(Drop)]
+#[derive(Clone, Copy)]
 pub enum Ahead {
     // Blocks that the waiting bits yield, and bits that stay.
     Yields { blocks: usize, bits: usize },
@@ -186,7 +188,7 @@ pub fn change(slicer: Slicer, format: u64) -> Answer
 // How many blocks the waiting bits would yield in a format, if it were commanded, and how many bits would stay.
 // Checks: those of change.
 pub fn look(slicer: Slicer, format: u64) -> Ahead
-    ensures { lookAnswerOf result ≡ looked slicer format }
+    ensures { look_answer_of result ≡ looked slicer format }
 {
     let number = check_change(slicer, format);
     if number != checks::PASSED {

@@ -1,8 +1,10 @@
 // What the test programs share: buffers, fields to print, and blocks to encode and digests to compare, as tests/oracle/src/digest.rs defines
 // them.
+#![tactic(auto)]
+
 ghost use Rattle.std.specs.Prelude.{◌≡◌, ◌≤◌, length};
 
-use libc::STDOUT_FILENO;
+use std::io;
 
 // Elements of a buffer: more than any list that a call takes.
 const ROOM: usize = 135168;
@@ -22,13 +24,12 @@ pub fn slots(value: usize) -> [u16; ROOM]
 }
 
 // The next field of a row.
-pub fn print_field(n: u64) {
-    io::write_all(STDOUT_FILENO, b",");
-    io::print_decimal(STDOUT_FILENO, n);
+pub fn print_field(rt: &impl Print, n: u64) -> io::Result<()> {
+    print!(rt; ",{n}")
 }
 
-pub fn end_row() {
-    io::write_all(STDOUT_FILENO, b"\n");
+pub fn end_row(rt: &impl Print) -> io::Result<()> {
+    println!(rt)
 }
 
 // The digest of a list: from 1 on, d becomes (1000003 d + x + 1) modulo 4294967291 at each element x.
@@ -43,8 +44,8 @@ fn digest(list: &[u8]) -> u64 {
 }
 
 // The digest of the first n bytes, as a field.
-pub fn print_digest(list: &[u8], n: usize) {
-    print_field(digest(front(list, n)));
+pub fn print_digest(rt: &impl Print, list: &[u8], n: usize) -> io::Result<()> {
+    print_field(rt, digest(front(list, n)))
 }
 
 // A digest with one element more.

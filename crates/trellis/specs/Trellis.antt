@@ -1,7 +1,6 @@
 -- The convolutional code of both trellises (4.2; 6, equations 6-1 to 6-4).
-use Rattle.std.specs.Prelude.{Bool, ◌&&◌, List, [], ◌∷◌, ◌++◌, ℕ, ◌+◌, ◌*◌, ◌/◌, ◌%◌, leb}
+use Rattle.std.specs.Prelude.{Bool, ◌&&◌, List, [], ◌∷◌, ◌++◌, ℕ, ◌+◌, ◌*◌, ◌/◌, ◌%◌, leb, if◌then◌else◌}
 use Rattle.bits.specs.Checks.{passed, bad_element}
-use Rattle.bits.specs.Choice.{if◌then◌else◌}
 use Rattle.bits.specs.Sum.{◌⊕◌}
 use Rattle.trellis.specs.declared.Stepped.{Stepped}
 use Rattle.trellis.specs.declared.Termination.{Termination}

@@ -1,4 +1,6 @@
 // The four-state trellis of both encoders (4.2, 6): a step, a run, and the two steps that terminate one.
+#![tactic(auto)]
+
 ghost use Rattle.std.specs.Prelude.{◌≡◌, length};
 ghost use Rattle.trellis.specs.Run.{run_number, ran, run_output};
 ghost use Rattle.trellis.specs.Trellis.{stepped, refused, termination_of};

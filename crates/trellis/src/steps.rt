@@ -1,7 +1,7 @@
 // Opened to the layer above alone: the encoder's loops, and the parts of a step that they and a run are made of.
 ghost use Rattle.std.specs.Prelude.{◌≡◌, ◌++◌, ◌*◌, ◌%◌, ◌≤◌, length, drop};
 ghost use Rattle.bits.specs.Sum.{◌⊕◌};
-ghost use Rattle.trellis.specs.Trellis.{state_number, state_of, run as run_of, ends, outer as outerOf};
+ghost use Rattle.trellis.specs.Trellis.{state_number, state_of, run as run_of, ends, outer as outer_of};
 
 // The parity bit of a step on u.
 pub fn parity(x1: u8, u: u8) -> u8
@@ -44,8 +44,8 @@ pub(crate) fn run(state: u8, bits: &[u8], out: &mut [u8]) -> u8
 // The outer trellis over a block of even length, terminated: its kept bits go to the front of work.
 pub fn outer(block: &[u8], work: &mut [u8])
     requires block_len { length block.now % 2 ≡ 0 }
-    requires block_in_bounds { length (outerOf block.now) ≤ length work.old }
-    ensures { work.new ≡ outerOf block.now ++ drop (length (outerOf block.now)) work.old }
+    requires block_in_bounds { length (outer_of block.now) ≤ length work.old }
+    ensures { work.new ≡ outer_of block.now ++ drop (length (outer_of block.now)) work.old }
 {
     let mut x0: u8 = 0;
     let mut x1: u8 = 0;

@@ -1,5 +1,5 @@
 // For every ACM format and six blocks, the digests of the outer kept bits, of the codeword and of its labels.
-use libc::STDOUT_FILENO;
+use std::io;
 use testkit::{UNTOUCHED, bytes, front, print_digest, print_field};
 
 // Blocks of a format: patterns 0, 1 and 2, and three seeded blocks.
@@ -7,23 +7,24 @@ const BLOCKS: u64 = 6;
 
 const PATTERNS: u64 = 3;
 
-pub(crate) fn run() {
-    io::write_all(STDOUT_FILENO, b"format,block,work,codeword,labels\n");
+pub(crate) fn run(rt: &impl Print) -> io::Result<()> {
+    println!(rt; "format,block,work,codeword,labels")?;
     let mut row: u64 = 0;
     while row < BLOCKS * acm::LAST {
-        print_row(1 + row / BLOCKS, row % BLOCKS);
+        print_row(rt, 1 + row / BLOCKS, row % BLOCKS)?;
         row += 1;
     }
+    Ok(())
 }
 
-fn print_row(format: u64, number: u64) {
+fn print_row(rt: &impl Print, format: u64, number: u64) -> io::Result<()> {
     let acm::Found::Record(f) = acm::lookup(format) else {
-        return;
+        return Ok(());
     };
     let mut block = bytes(number as usize % 2);
     fill_block(number, format, &mut block);
-    print_name(format, number);
-    print_codeword(format, f.i, f.n, front(&block, f.k));
+    print_name(rt, format, number)?;
+    print_codeword(rt, format, f.i, f.n, front(&block, f.k))
 }
 
 // What is left of a block whose bits are its number modulo 2. Of document 01's patterns 0 (all zeros), 1 (all ones) and 2 (a single one at
@@ -36,28 +37,33 @@ fn fill_block(number: u64, format: u64, out: &mut [u8]) {
     }
 }
 
-fn print_name(format: u64, number: u64) {
-    io::print_decimal(STDOUT_FILENO, format);
+fn print_name(rt: &impl Print, format: u64, number: u64) -> io::Result<()> {
+    rt.print(format)?;
     if number < PATTERNS {
-        print_field(number);
+        print_field(rt, number)
     } else {
-        io::write_all(STDOUT_FILENO, b",s");
-        io::print_decimal(STDOUT_FILENO, number - 2);
+        print!(rt; ",s{}", number - 2)
     }
 }
 
-fn print_codeword(format: u64, i: usize, n: usize, block: &[u8]) {
+fn print_codeword(
+    rt: &impl Print,
+    format: u64,
+    i: usize,
+    n: usize,
+    block: &[u8],
+) -> io::Result<()> {
     let mut work = bytes(UNTOUCHED);
     let mut codeword = bytes(UNTOUCHED);
     encoder::encode(format, block, &mut work, &mut codeword);
-    print_digest(&work, i);
-    print_labels(format, front(&codeword, n));
+    print_digest(rt, &work, i)?;
+    print_labels(rt, format, front(&codeword, n))
 }
 
-fn print_labels(format: u64, codeword: &[u8]) {
+fn print_labels(rt: &impl Print, format: u64, codeword: &[u8]) -> io::Result<()> {
     let mut labels = bytes(UNTOUCHED);
     encoder::labels(format, codeword, &mut labels);
-    print_digest(codeword, codeword.len());
-    print_digest(&labels, acm::SYMBOLS);
-    testkit::end_row();
+    print_digest(rt, codeword, codeword.len())?;
+    print_digest(rt, &labels, acm::SYMBOLS)?;
+    testkit::end_row(rt)
 }

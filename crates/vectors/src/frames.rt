@@ -1,7 +1,7 @@
 // For every ACM format, without pilots and with them, the digests of the frame marker, the frame descriptor, the labels of sixteen seeded
 // blocks, and their frame.
 use framing::{FRAME_LABELS, PILOTS_OFF, PILOTS_ON};
-use libc::STDOUT_FILENO;
+use std::io;
 use testkit::{bytes, front, front_mut, least, print_field};
 
 // Bits of the frame marker, and those with the frame descriptor's.
@@ -14,39 +14,37 @@ const LAST_BIT: u16 = 1;
 
 const WHOLE: u16 = 65535;
 
-pub(crate) fn run() {
-    io::write_all(
-        STDOUT_FILENO,
-        b"format,pilots,marker,descriptor,labels,frame\n",
-    );
+pub(crate) fn run(rt: &impl Print) -> io::Result<()> {
+    println!(rt; "format,pilots,marker,descriptor,labels,frame")?;
     let mut format: u64 = 1;
     while format <= acm::LAST {
-        print_frames(format);
+        print_frames(rt, format)?;
         format += 1;
     }
+    Ok(())
 }
 
-fn print_frames(format: u64) {
+fn print_frames(rt: &impl Print, format: u64) -> io::Result<()> {
     let mut labels = bytes(0);
     put_sections(format, front_mut(&mut labels, FRAME_LABELS));
-    print_frame(format, PILOTS_OFF, front(&labels, FRAME_LABELS));
-    print_frame(format, PILOTS_ON, front(&labels, FRAME_LABELS));
+    print_frame(rt, format, PILOTS_OFF, front(&labels, FRAME_LABELS))?;
+    print_frame(rt, format, PILOTS_ON, front(&labels, FRAME_LABELS))
 }
 
-fn print_frame(format: u64, pilots: u64, labels: &[u8]) {
+fn print_frame(rt: &impl Print, format: u64, pilots: u64, labels: &[u8]) -> io::Result<()> {
     let mut slots = testkit::slots(0);
     framing::frame(format, pilots, labels, &mut slots);
-    io::print_decimal(STDOUT_FILENO, format);
-    print_field(pilots);
-    print_digests(labels, &slots, framing::frame_length(pilots));
+    rt.print(format)?;
+    print_field(rt, pilots)?;
+    print_digests(rt, labels, &slots, framing::frame_length(pilots))
 }
 
-fn print_digests(labels: &[u8], slots: &[u16], length: usize) {
-    print_field(digest_slots(slots, 0, MARKER, LAST_BIT));
-    print_field(digest_slots(slots, MARKER, HEADER, LAST_BIT));
-    testkit::print_digest(labels, FRAME_LABELS);
-    print_field(digest_slots(slots, 0, length, WHOLE));
-    testkit::end_row();
+fn print_digests(rt: &impl Print, labels: &[u8], slots: &[u16], length: usize) -> io::Result<()> {
+    print_field(rt, digest_slots(slots, 0, MARKER, LAST_BIT))?;
+    print_field(rt, digest_slots(slots, MARKER, HEADER, LAST_BIT))?;
+    testkit::print_digest(rt, labels, FRAME_LABELS)?;
+    print_field(rt, digest_slots(slots, 0, length, WHOLE))?;
+    testkit::end_row(rt)
 }
 
 fn put_sections(format: u64, labels: &mut [u8]) {

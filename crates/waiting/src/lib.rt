@@ -1,4 +1,6 @@
 // Bits that wait in memory that a caller lends, a bit a byte, from byte 0 on.
+#![tactic(auto)]
+
 ghost use Rattle.std.specs.Prelude.{◌≡◌, take};
 ghost use Rattle.bits.specs.Legal.{all_bits};
 ghost use Rattle.waiting.specs.Waiting.{waiting_number};
