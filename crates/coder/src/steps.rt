@@ -3,7 +3,7 @@ ghost use Rattle.std.specs.Prelude.{◌≡◌, ◌+◌, ◌^◌, ◌≤◌, ◌<
 ghost use Rattle.coder.specs.Coder.{turned, stored, finished};
 
 // Where the inner encoder stands: the trellis' state x0, x1, where each register goes on, and the counter of rate matching.
-#[derive(Drop)]
+#[derive(Clone, Copy)]
 pub struct Coder {
     pub x0: u8,
     pub x1: u8,

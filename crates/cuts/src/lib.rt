@@ -11,7 +11,7 @@ pub const SEGMENTS: usize = 16;
 
 // For each of the sixteen segments of a trellis, as numbers 2 * x0 + x1: the state in which its run from 00 ends, and its true starting state.
 // Both are 0 past the last segment.
-#[derive(Drop)]
+#[derive(Clone, Copy)]
 pub struct States {
     pub ended: [u8; SEGMENTS],
     pub started: [u8; SEGMENTS],

@@ -1,2 +1,4 @@
 // The expanded interleaver, built in lent memory (document 02, L10).
+#![tactic(auto)]
+
 pub mod steps;

@@ -71,7 +71,7 @@ fn write(
 }
 
 // Where a run over the positions stands.
-#[derive(Drop)]
+#[derive(Clone, Copy)]
 pub struct Progress {
     pub walk: Walk,
     pub coder: Coder,

@@ -102,7 +102,7 @@ fn first(
 }
 
 // A run from a state that keeps no output: where its walk over the positions stands, and the state in which it ends.
-#[derive(Drop)]
+#[derive(Clone, Copy)]
 struct Ended {
     walk: Walk,
     state: u8,

@@ -15,11 +15,11 @@ pub mod steps;
 const M: usize = 120;
 
 // A position in the upper register, i of the standard (document 01: a place in the upper register).
-#[derive(Drop)]
+#[derive(Clone, Copy)]
 pub struct UpperPosition(pub usize);
 
 // Its interleaved position, π(i) (document 01: an interleaved place). Only the interleaver can make one.
-#[derive(Drop)]
+#[derive(Clone, Copy)]
 pub struct InterleavedPosition(usize);
 
 impl InterleavedPosition {
@@ -32,7 +32,7 @@ impl InterleavedPosition {
 }
 
 // The answer of an interleave call.
-#[derive(Drop)]
+#[derive(Clone, Copy)]
 pub enum Interleaved {
     At(InterleavedPosition),
     NoFormat,
@@ -81,7 +81,7 @@ fn permute(alpha: &[u16], beta: &[u8], position: UpperPosition) -> InterleavedPo
 }
 
 // Where the rows of a format's interleaver come from.
-#[derive(Drop)]
+#[derive(Clone, Copy)]
 pub enum Source {
     // each of them from the standard
     Published,

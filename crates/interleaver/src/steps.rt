@@ -10,7 +10,7 @@ use crate::{InterleavedPosition, M, UpperPosition};
 
 // A walk over the positions in order: where it stands, and the row and column of that position as running values. Only the interleaver
 // makes one.
-#[derive(Drop)]
+#[derive(Clone, Copy)]
 pub struct Walk {
     pub position: UpperPosition,
     row: usize,

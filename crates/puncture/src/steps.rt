@@ -3,7 +3,7 @@ ghost use Rattle.std.specs.Prelude.{◌≡◌, ◌+◌, ◌^◌, ◌≤◌, ◌<
 ghost use Rattle.puncture.specs.Puncture.{counted};
 
 // Whether rate matching keeps a bit, and its counter at the next.
-#[derive(Drop)]
+#[derive(Clone, Copy)]
 pub struct Matching {
     pub kept: bool,
     pub counter: usize,

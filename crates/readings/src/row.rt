@@ -3,7 +3,7 @@ use std::io;
 use std::num::wrapping_add_usize;
 
 // The letter is 0 at the start of a row. The numbers are the last six, the last of them in f; the word counts as a number too, which no call uses.
-#[derive(Drop)]
+#[derive(Clone, Copy)]
 pub(crate) struct Row {
     pub letter: u8,
     pub a: usize,

@@ -10,7 +10,7 @@ const ALL_ZEROS: u64 = 0;
 const ALL_ONES: u64 = 1;
 
 // A row: the format, its K, I and N, and the number of ones in the codeword.
-#[derive(Drop)]
+#[derive(Clone, Copy)]
 pub struct Row {
     pub format: u64,
     pub k: usize,

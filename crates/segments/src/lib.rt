@@ -7,7 +7,7 @@ use bits::checks;
 use cuts::States;
 
 // The answer: the check's number, and the states of the segments of each trellis.
-#[derive(Drop)]
+#[derive(Clone, Copy)]
 pub struct Segmented {
     pub number: u8,
     pub outer: States,
