@@ -1,4 +1,6 @@
 // The SCCC encoder (4): from an information block to a codeword, and from a codeword to labels.
+#![tactic(auto)]
+
 ghost use Rattle.std.specs.Prelude.{◌≡◌, length};
 ghost use Rattle.encoder.specs.Calls.{encode_number, encode_workspace, encode_output, labels_number, labels_output};
 

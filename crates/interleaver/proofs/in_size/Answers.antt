@@ -12,7 +12,6 @@ narrow : (c : Start) → c.args.w ≤ widest
 narrow c = omega (arith, (size-vectors c.args.w c.requires.w_value).narrow, α-rows c.args.w c.requires.w_value)
 
 module _ (c : After-load) where
-
   α : take c.args.w c.load.new.alpha ≡ (size_of c.args.w).α
   α = front-α c.args.w c.requires.w_value c.load.new.alpha _ c.load.ensures.alpha_after
 

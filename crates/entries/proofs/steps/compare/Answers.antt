@@ -2,7 +2,6 @@
 use mathlib.Core.Path.{◌≡◌, sym, ap, ◌∙◌}
 use Prim.Native.Nat.{ℕ, ◌-◌, ◌≤◌}
 use native.Mathlib.Omega.{arith}
-use borrow.Author.Tests.{not-true, not-false}
 use lib.ListN.{length, take, drop, length-drop}
 use lib.Seq.{length-take-le, take_all}
 use Rattle.bits.specs.Same.{same}
@@ -12,7 +11,7 @@ use Rattle.entries.proofs.Columns.{first_wrong, by_columns}
 use Rattle.entries.proofs.steps.compare.Goals.{After-compare_first, Start}
 use Rattle.entries.proofs.steps.compare.Goals as goal
 
--- and behind it the others
+-- behind the first column are the others
 others : (s : Start)
     → (let a = s.args in let w = length a.alpha.now in take (length a.memory.now - w) (drop w a.memory.now) ≡ drop w a.memory.now)
 others s =
@@ -20,7 +19,7 @@ others s =
     let w = length s.args.alpha.now in
     take_all (length m - w) (drop w m) (omega (arith, length-drop w m))
 
--- what comparing it said
+-- what comparing the first column said
 told : (c : After-compare_first)
     → (let a = c.args in let w = length a.alpha.now in
     c.compare_first.result ≡ same (take w a.memory.now) (expanded_from (permuted a.alpha.now a.beta.now) 0 w))

@@ -1,13 +1,11 @@
 -- One entry a turn: whether all were right so far, and those from i on are.
-use mathlib.Core.Path.{◌≡◌, refl, sym, ◌∙◌}
+use mathlib.Core.Path.{◌≡◌}
 use mathlib.Core.Bool.{◌&&◌}
 use mathlib.Core.List.{map}
-use Prim.Native.Nat.{◌-◌, ◌≤◌, ◌<◌}
-use native.Mathlib.Omega.{arith}
+use Prim.Native.Nat.{◌-◌, ◌≤◌}
 use lib.ListN.{length, drop}
 use Rattle.bits.specs.Same.{same}
 use Rattle.entries.specs.Columns.{column_on}
-use Rattle.entries.proofs.Turns.{agree_next, agree_end}
 use Rattle.entries.proofs.steps.compare_columns.Given as goal
 
 abbrev pub invariant-loop-i : goal.invariant-loop-i

@@ -1,32 +1,22 @@
 use mathlib.Core.Path.{◌≡◌, sym, ap, ◌∙◌}
-use Prim.Native.Nat.{ℕ, ◌*◌, ◌-◌, ◌≤◌, ◌<◌}
+use Prim.Native.Nat.{ℕ, ◌*◌, ◌<◌}
 use native.Mathlib.Omega.{arith}
-use lib.ListN.{length, drop}
-use Rattle.bits.specs.Same.{same}
+use lib.ListN.{length}
 use Rattle.acm.specs.Formats.{M}
 use Rattle.interleaver.specs.Interleaver.{permuted}
-use Rattle.interleaver.specs.Walk.{Walked, InColumn}
-use Rattle.interleaver.specs.Expanded.{expanded_from}
-use Rattle.interleaver.proofs.Expanded.{expanded-all}
-use Rattle.interleaver.proofs.Walks.{walked-inside, in_first, in_column_down}
-use Rattle.entries.proofs.Turns.{right_here, wrong_here, right_end}
+use Rattle.interleaver.specs.Walk.{Walked}
+use Rattle.interleaver.proofs.Walks.{walked-inside, in_column_down}
+use Rattle.entries.proofs.Turns.{right_here, wrong_here}
 use Rattle.entries.proofs.steps.compare_first.Goals.{After-number, In-loop-walk}
 use Rattle.entries.proofs.steps.compare_first.Goals as goal
 
 -- in a turn the walk stands at a row of the first column
-module _ (t : In-loop-walk) where
+row : (t : In-loop-walk) → t.loop-walk.walk.row < length t.args.alpha.now
+row t =
+    let i = t.loop-walk.invariant in
+    omega (arith, i.1.position-is, ap (λ (k : ℕ). length t.args.alpha.now * k) i.2, t.loop-walk-test.true, t.requires.column_len)
 
-  row : t.loop-walk.walk.row < length t.args.alpha.now
-  row =
-      let i = t.loop-walk.invariant in
-      omega (arith, i.1.position-is, ap (λ (k : ℕ). length t.args.alpha.now * k) i.2, t.loop-walk-test.true, t.requires.column_len)
-
-  walked : Walked (length t.args.alpha.now) t.loop-walk.walk
-  walked = walked-inside _ t.loop-walk.walk t.loop-walk.invariant.1 row
-
-  inside : t.loop-walk.walk.position.0 < M * length t.args.alpha.now
-  inside = omega (arith, t.loop-walk-test.true, t.requires.column_len)
-
+-- what its entry should be
 due : (n : After-number)
     → (let a = n.args in n.number.result ≡ permuted a.alpha.now a.beta.now n.loop-walk.walk.position.0)
 due n = n.number.ensures ∙ n.interleaved_at-position.ensures
@@ -49,7 +39,3 @@ loop-walk-preserved c =
       l.invariant.2,
       sym (right_here π a.column.now l.walk.position.0 c.loop-walk-test.true (c.if-column-i.false ∙ due (goal.at.loop-walk-preserved c).After-number)) ∙ l.invariant.3,
     )
-
--- no goal for cast-if2 : tie.Need-overflow-cast-if2 invariant-loop decreases-loop
--- cast-if2 : tie.Need-overflow-cast-if2 invariant-loop decreases-loop
--- cast-if2 c = omega (arith, c.shared-slice-known5.given (loop c.before.before).loop.walk.position.0)

@@ -11,11 +11,9 @@ use Rattle.entries.proofs.Formats.{compared_is}
 use Rattle.entries.proofs.steps.holds.Goals.{After-parameters-f}
 use Rattle.entries.proofs.steps.holds.Goals as goal
 
--- the places that a need looks back to, and the format's W, which every buffer of a size's vectors holds
-module _ (c : After-parameters-f) where
-
-  fits : c.parameters-f.result.w ≤ widest
-  fits = narrow _ c.requires.0 c.parameters-f.ensures
+-- the format's W, which every buffer of a size's vectors holds
+fits : (p : After-parameters-f) → p.parameters-f.result.w ≤ widest
+fits p = narrow _ p.requires.0 p.parameters-f.ensures
 
 -- the memory has the I entries
 entries : (p : After-parameters-f) → p.parameters-f.result.i ≤ length p.args.memory.now

@@ -1,13 +1,11 @@
-use mathlib.Core.Path.{sym}
-use Prim.Native.Nat.{◌+◌, ◌*◌, ◌-◌, ◌≤◌, ◌<◌}
+use Prim.Native.Nat.{◌*◌, ◌-◌, ◌≤◌, ◌<◌}
 use native.Mathlib.Omega.{arith}
 use lib.ListN.{length}
-use Rattle.bits.proofs.Fill.{Left, left_start, left_as, left-stretch}
+use Rattle.bits.proofs.Fill.{left-stretch}
 use Rattle.acm.specs.Formats.{M}
 use Rattle.interleaver.specs.Interleaver.{permuted}
-use Rattle.interleaver.specs.Walk.{Walked, InColumn}
 use Rattle.interleaver.specs.Expanded.{expanded_from}
-use Rattle.interleaver.proofs.Expanded.{expanded-length, expanded-all, expanded-split, expanded-end}
+use Rattle.interleaver.proofs.Expanded.{expanded-length, expanded-split}
 use Rattle.interleaver.proofs.Walks.{walked_row, in_column}
 use Rattle.expansion.proofs.steps.write.Goals.{After-stop-end}
 use Rattle.expansion.proofs.steps.write.Goals as goal

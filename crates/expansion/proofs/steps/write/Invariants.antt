@@ -1,15 +1,10 @@
 -- A column goes on past where the last one ended, and what is left to write are the entries from there on.
-use mathlib.Core.Path.{sym}
-use Prim.Native.Nat.{◌+◌, ◌*◌, ◌-◌, ◌≤◌, ◌<◌}
-use native.Mathlib.Omega.{arith}
+use Prim.Native.Nat.{◌-◌, ◌≤◌}
 use lib.ListN.{length}
-use Rattle.bits.proofs.Fill.{Left, left_start, left_as, left-stretch}
-use Rattle.acm.specs.Formats.{M}
+use Rattle.bits.proofs.Fill.{Left}
 use Rattle.interleaver.specs.Interleaver.{permuted}
-use Rattle.interleaver.specs.Walk.{Walked, InColumn}
+use Rattle.interleaver.specs.Walk.{Walked}
 use Rattle.interleaver.specs.Expanded.{expanded_from}
-use Rattle.interleaver.proofs.Expanded.{expanded-length, expanded-all, expanded-split, expanded-end}
-use Rattle.interleaver.proofs.Walks.{walked_row, in_column}
 use Rattle.expansion.proofs.steps.write.Given as goal
 
 abbrev pub invariant-loop-walk : goal.invariant-loop-walk

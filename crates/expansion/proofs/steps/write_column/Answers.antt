@@ -1,21 +1,19 @@
-use mathlib.Core.Path.{◌≡◌, refl, ◌∙◌}
-use Prim.Native.Nat.{◌*◌, ◌-◌, ◌≤◌, ◌<◌}
+use mathlib.Core.Path.{◌≡◌, ◌∙◌}
+use Prim.Native.Nat.{◌*◌, ◌<◌}
 use native.Mathlib.Omega.{arith}
 use lib.ListN.{length}
-use Rattle.bits.proofs.Fill.{Left, left_start, left_as, left_store}
+use Rattle.bits.proofs.Fill.{left_as, left_store}
 use Rattle.acm.specs.Formats.{M}
 use Rattle.interleaver.specs.Interleaver.{permuted}
-use Rattle.interleaver.specs.Walk.{Walked, InColumn}
-use Rattle.interleaver.specs.Expanded.{expanded_from}
-use Rattle.interleaver.proofs.Expanded.{expanded-next, expanded-end}
+use Rattle.interleaver.specs.Walk.{Walked}
+use Rattle.interleaver.proofs.Expanded.{expanded-next}
 use Rattle.interleaver.proofs.Laws.{permuted-below}
-use Rattle.interleaver.proofs.Walks.{walked-column, in_column, in_column_down, way_row, way_walked}
-use Rattle.expansion.proofs.steps.write_column.Goals.{After-number, In-loop-walk, Start}
+use Rattle.interleaver.proofs.Walks.{in_column_down, way_row, way_walked}
+use Rattle.expansion.proofs.steps.write_column.Goals.{After-number, In-loop-walk}
 use Rattle.expansion.proofs.steps.write_column.Goals as goal
 
 -- in a turn the walk stands at a row of its column, inside the interleaver
 module _ (t : In-loop-walk) where
-
   row : t.loop-walk.walk.row < length t.args.alpha.now
   row = way_row _ t.args.from t.loop-walk.walk t.args.to t.loop-walk.invariant.1 t.loop-walk.invariant.2 t.loop-walk-test.true t.requires.walked.3
 
@@ -30,15 +28,11 @@ due : (n : After-number)
     → (let a = n.args in n.number.result ≡ permuted a.alpha.now a.beta.now n.loop-walk.walk.position.0)
 due n = n.number.ensures ∙ n.interleaved_at-position.ensures
 
--- the entries up to `to` were in reach before the loop
-from_low : (s : Start) → s.args.from.position.0 < M * length s.args.alpha.now
-from_low s = omega (arith, s.requires.walked.1, s.requires.walked.2)
-
 pub interleaved_at-position-requires : goal.interleaved_at-position-requires
 interleaved_at-position-requires c = record {
-      vectors = c.requires.vectors;
-      walked = (walked (goal.at.interleaved_at-position-requires c).In-loop-walk, inside (goal.at.interleaved_at-position-requires c).In-loop-walk);
-    }
+  vectors = c.requires.vectors;
+  walked = (walked (goal.at.interleaved_at-position-requires c).In-loop-walk, inside (goal.at.interleaved_at-position-requires c).In-loop-walk);
+}
 
 pub overflow_cast-memory : goal.overflow_cast-memory
 overflow_cast-memory c =

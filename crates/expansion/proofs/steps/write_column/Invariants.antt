@@ -1,16 +1,11 @@
 -- One entry a turn: the walk's row and column are right, and what is left to write are the entries from its position on.
-use mathlib.Core.Path.{◌≡◌, refl, ◌∙◌}
-use Prim.Native.Nat.{◌*◌, ◌-◌, ◌≤◌, ◌<◌}
-use native.Mathlib.Omega.{arith}
+use mathlib.Core.Path.{◌≡◌}
+use Prim.Native.Nat.{◌-◌, ◌≤◌}
 use lib.ListN.{length}
-use Rattle.bits.proofs.Fill.{Left, left_start, left_as, left_store}
-use Rattle.acm.specs.Formats.{M}
+use Rattle.bits.proofs.Fill.{Left}
 use Rattle.interleaver.specs.Interleaver.{permuted}
-use Rattle.interleaver.specs.Walk.{Walked, InColumn}
+use Rattle.interleaver.specs.Walk.{InColumn}
 use Rattle.interleaver.specs.Expanded.{expanded_from}
-use Rattle.interleaver.proofs.Expanded.{expanded-next, expanded-end}
-use Rattle.interleaver.proofs.Laws.{permuted-below}
-use Rattle.interleaver.proofs.Walks.{walked-column, in_column, in_column_down, way_row, way_walked}
 use Rattle.expansion.proofs.steps.write_column.Given as goal
 
 abbrev pub invariant-loop-walk : goal.invariant-loop-walk

@@ -21,7 +21,6 @@ use Rattle.inner.proofs.steps.stretch.Goals as goal
 
 -- in a turn the walk stands at a row of its column, inside the interleaver
 module _ (t : In-loop-walk) where
-
   row : t.loop-walk.walk.row < length t.args.alpha.now
   row = way_row _ t.args.from.walk t.loop-walk.walk t.args.to t.loop-walk.invariant.1 t.loop-walk.invariant.2 t.loop-walk-test.true t.requires.stands.3
 
@@ -33,7 +32,6 @@ module _ (t : In-loop-walk) where
 
 -- the residue is one that the pattern laid out has, and its mark is that of the interleaved position
 module _ (r : After-residue_at-residue) where
-
   abbrev position : ℕ
   position = permuted r.args.alpha.now r.args.beta.now r.loop-walk.walk.position.0
 
@@ -51,9 +49,9 @@ module _ (r : After-residue_at-residue) where
 
 pub interleaved_at-position-requires : goal.interleaved_at-position-requires
 interleaved_at-position-requires c = record {
-      vectors = (c.requires.lent.vectors, c.requires.lent.starts_are);
-      walked = (walked (goal.at.interleaved_at-position-requires c).In-loop-walk, inside (goal.at.interleaved_at-position-requires c).In-loop-walk);
-    }
+  vectors = (c.requires.lent.vectors, c.requires.lent.starts_are);
+  walked = (walked (goal.at.interleaved_at-position-requires c).In-loop-walk, inside (goal.at.interleaved_at-position-requires c).In-loop-walk);
+}
 
 pub residue_at-residue-requires : goal.residue_at-residue-requires
 residue_at-residue-requires c =
