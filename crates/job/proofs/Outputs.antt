@@ -16,7 +16,7 @@ use Rattle.encoder.specs.Codeword.{codeword}
 use Rattle.encoder.proofs.Codewords.{codeword-length}
 use Rattle.ascii.specs.Text.{separator, decimal, line}
 use Rattle.ascii.proofs.Decimal.{decimal-length}
-use Rattle.row.specs.Row.{block, ones, row_of}
+use Rattle.row.specs.Row.{block, row_of}
 use Rattle.row.proofs.Rows.{block-length, ones-most}
 use Rattle.job_line.specs.Line.{longest_line, is_line, format_in, pattern_in}
 use Rattle.job_line.specs.Job.{job_number}

@@ -1,4 +1,6 @@
 // What the bench prints (document 01, "The bench program").
+#![tactic(auto)]
+
 ghost use Rattle.std.specs.Prelude.{◌≡◌, true, ◌≤◌, length};
 ghost use Rattle.acm.specs.Formats.{is_format};
 ghost use Rattle.ascii.specs.Text.{at_front};

@@ -1,2 +1,4 @@
 // The row that the bench prints for a job.
+#![tactic(auto)]
+
 pub mod steps;

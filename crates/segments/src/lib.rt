@@ -1,5 +1,7 @@
 // Encoding by segments (6), as the fast modulators do: the input of each trellis is cut into segments, each is run from 00, the true starting
 // states are worked out from where these runs end, and each segment is run again from its own.
+#![tactic(auto)]
+
 ghost use Rattle.std.specs.Prelude.{◌≡◌, length};
 ghost use Rattle.segments.specs.Calls.{segments_number, segmented, segments_workspace, segments_output};
 

@@ -2,10 +2,8 @@ use mathlib.Core.Path.{◌≡◌, sym, ap, ◌∙◌}
 use Prim.Native.Nat.{ℕ, ◌*◌, ◌<◌}
 use native.Mathlib.Omega.{arith}
 use lib.ListN.{length}
-use Rattle.acm.specs.Formats.{M}
 use Rattle.interleaver.specs.Interleaver.{permuted}
-use Rattle.interleaver.specs.Walk.{Walked}
-use Rattle.interleaver.proofs.Walks.{walked-inside, in_column_down}
+use Rattle.interleaver.proofs.Walks.{in_column_down}
 use Rattle.entries.proofs.Turns.{right_here, wrong_here}
 use Rattle.entries.proofs.steps.compare_first.Goals.{After-number, In-loop-walk}
 use Rattle.entries.proofs.steps.compare_first.Goals as goal
