@@ -1,4 +1,6 @@
 // Two channels, one interleaver memory (document 02, L10): encoding through the expanded interleaver that a memory holds.
+#![tactic(auto)]
+
 ghost use Rattle.std.specs.Prelude.{◌≡◌, true, ◌++◌, ◌≤◌, length, drop};
 ghost use Rattle.acm.specs.Formats.{is_format, format_of};
 ghost use Rattle.interleaver.specs.Expanded.{expanded, expands};
