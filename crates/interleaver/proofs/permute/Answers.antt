@@ -22,15 +22,3 @@ module _ (c : Start) where
 pub returns : goal.returns
 unfolding permuted
 returns c = refl
-
--- no goal for cast-shift : tie.Need-overflow-cast-shift
--- cast-shift : tie.Need-overflow-cast-shift
--- cast-shift c =
---     let s = c.before in
---     omega (arith, s.requires.0.β_range _ (row s))
-
--- no goal for cast-address : tie.Need-overflow-cast-address
--- cast-address : tie.Need-overflow-cast-address
--- cast-address c =
---     let s = c.before.before in
---     omega (arith, s.requires.0, s.requires.0.α_range _ (row s))

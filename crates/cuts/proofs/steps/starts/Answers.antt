@@ -32,7 +32,3 @@ returns c =
     let a = c.args in
     padded-is (worked_fits a.cuts.now a.ended.now (few (goal.at.returns c).Start))
     (worked_done a.cuts.now a.ended.now (state_of c.loop-j.state) c.loop-j.j c.loop-j.from (omega (arith, c.loop-j-test.false))) c.loop-j.invariant.3
-
--- no goal for cast-to : tie.Need-overflow-cast-to invariant-loop decreases-loop
--- cast-to : tie.Need-overflow-cast-to invariant-loop decreases-loop
--- cast-to c = omega (arith, (c.shared-slice-known3.given c.before.before.loop.j).fits)

@@ -19,7 +19,3 @@ bounds-memory-i c = inside (goal.at.bounds-memory-i c).Start
 pub returns : goal.returns
 returns c =
     holds-entry c.args.format c.args.memory.now c.requires.0 c.args.position.0 c.requires.1
-
--- no goal for cast-t8 : tie.Need-overflow-cast-t8
--- cast-t8 : tie.Need-overflow-cast-t8
--- cast-t8 c = omega (arith, c.shared-slice-known.given c.before.args.position.0)
