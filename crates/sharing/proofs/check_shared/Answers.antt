@@ -1,7 +1,6 @@
 -- Behind encode's checks, each return rewrites with the tests that led there.
 use mathlib.Core.Path.{◌≡◌, sym, ap, ◌∙◌}
 use native.Mathlib.Omega.{arith}
-use borrow.Author.Tests.{not-true, not-false}
 use Rattle.bits.specs.Checks.{passed}
 use Rattle.acm.specs.declared.table.Format.{Format}
 use Rattle.encoder.specs.Calls.{encode_number}
@@ -12,7 +11,6 @@ use Rattle.sharing.proofs.check_shared.Goals as goal
 
 -- behind encode's checks
 module _ (d : Else-number-ne-PASSED) where
-
   encodes : encode_number d.args.format d.args.block.now d.args.work d.args.out ≡ passed
   encodes = sym d.check_encode-number.ensures ∙ d.if-number-ne-PASSED.false
 

@@ -23,7 +23,6 @@ use Rattle.sharing.proofs.encode_shared.Goals as goal
 
 -- what a call that has passed knows of its arguments
 module _ (d : Else-number-ne-PASSED) where
-
   zero : shared_number d.args.format d.args.block.now (length d.args.work.now) (length d.args.out.now) d.args.memory.now d.args.held ≡ passed
   zero = sym d.check_shared-number.ensures ∙ d.if-number-ne-PASSED.false
 
@@ -35,7 +34,6 @@ module _ (d : Else-number-ne-PASSED) where
 
 -- the part of the block that is lent to the outer trellis, and how many of its bits are kept
 module _ (p : After-parameters-f) where
-
   abbrev part : List ℕ
   part = trellis_part p.args.format p.args.block.now
 
@@ -104,8 +102,8 @@ returns c =
       answer = ap {B = Shared} (λ (size : ℕ). (record { number = passed; held = size })) c.prepare-held.ensures.value ∙ when_passed _ _ _ (zero (goal.at.returns c).Else-number-ne-PASSED);
       workspace = work ∙ ap (λ (n : ℕ). outer (part (goal.at.returns c).After-parameters-f) ++ drop n a.work.now) (long (goal.at.returns c).After-parameters-f h) ∙ when_passed _ _ _ (sound (goal.at.returns c).Else-number-ne-PASSED).encodes ∙ when_passed _ _ _ (zero (goal.at.returns c).Else-number-ne-PASSED);
       output = c.encode.ensures
-              ∙ ap₂ (λ (l out : List ℕ). from_outer a.format l ++ drop (N1 (format_of a.format)) out) work c.put_pieces.ensures
-              ∙ both-written a.format h.known a.block.now h.long _ a.out.now h.out-fits
-              ∙ when_passed _ _ _ (sound (goal.at.returns c).Else-number-ne-PASSED).encodes ∙ when_passed _ _ _ (zero (goal.at.returns c).Else-number-ne-PASSED);
+          ∙ ap₂ (λ (l out : List ℕ). from_outer a.format l ++ drop (N1 (format_of a.format)) out) work c.put_pieces.ensures
+          ∙ both-written a.format h.known a.block.now h.long _ a.out.now h.out-fits
+          ∙ when_passed _ _ _ (sound (goal.at.returns c).Else-number-ne-PASSED).encodes ∙ when_passed _ _ _ (zero (goal.at.returns c).Else-number-ne-PASSED);
       interleaver = c.prepare-held.ensures.memory_after ∙ when_passed _ _ _ (zero (goal.at.returns c).Else-number-ne-PASSED);
     }
