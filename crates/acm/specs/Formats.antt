@@ -1,9 +1,8 @@
 -- The ACM formats (table 4-3; 28 to 37 by tables 3-1, 4-1 and 5-3 of 004) with their soft share (document 02, L7), and the lookup's answer.
-use Rattle.std.specs.Prelude.{◌≡◌, Bool, ◌&&◌, List, [], ◌∷◌, ℕ, ◌+◌, ◌-◌, ◌*◌, ◌^◌, leb, get_or, if◌then◌else◌}
-use Rattle.bits.specs.Checks.{passed, bad_format}
+use Rattle.std.specs.Prelude.{◌≡◌, Bool, ◌&&◌, List, [], ◌∷◌, ℕ, ◌+◌, ◌-◌, ◌*◌, ◌^◌, leb, get_or, if◌then◌else◌, Result, Ok, Err}
+use Rattle.bits.specs.Checks.{check_number, passed, bad_format}
+use Rattle.bits.specs.declared.checks.Refusal.{Refusal}
 use Rattle.acm.specs.declared.table.Format.{Format}
-use Rattle.acm.specs.declared.Found.{Found}
-use Rattle.acm.specs.declared.Found.TheVariants.{Record, NoFormat}
 
 -- labels of a codeword (4.1), and the number of the interleaver's banks (annex C)
 abbrev pub symbols : ℕ
@@ -123,9 +122,9 @@ pub record Answer : Type 0 where
 abbrev pub refused : ℕ → Answer
 refused number = record { number = number; format = none }
 
-abbrev pub answer_of : Found → Answer
-answer_of (Record r) = record { number = passed; format = r }
-answer_of NoFormat = refused bad_format
+abbrev pub answer_of : Result Format Refusal → Answer
+answer_of (Ok r) = record { number = passed; format = r }
+answer_of (Err refusal) = refused (check_number refusal)
 
 abbrev pub looked_up : ℕ → Answer
 looked_up f =

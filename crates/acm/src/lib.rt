@@ -4,9 +4,11 @@
 ghost use Rattle.std.specs.Prelude.{◌≡◌};
 ghost use Rattle.acm.specs.Formats.{answer_of, looked_up, top_label};
 
-pub mod steps;
+mod number;
 mod table;
 
+use bits::Refusal;
+pub use number::AcmFormat;
 pub use table::Format;
 
 // The number of the last ACM format.
@@ -25,33 +27,20 @@ pub const MOST_I: usize = 65520;
 
 pub const MOST_N: usize = 64800;
 
-// The answer of a lookup.
-#[derive(Drop)]
-pub enum Found {
-    Record(Format),
-    NoFormat,
-}
-
 // The record of an ACM format, for any number.
 // Checks: 1.
-pub fn lookup(format: u64) -> Found
+pub fn lookup(format: u64) -> Result<Format, Refusal>
     ensures { answer_of result ≡ looked_up format }
 {
-    if format < 1 {
-        return Found::NoFormat;
-    }
-    if LAST < format {
-        return Found::NoFormat;
-    }
-    Found::Record(steps::parameters(format))
+    Ok(AcmFormat::try_from(format)?.record())
 }
 
 // The largest label of an ACM format, 2^m - 1, for any number: 0 where there is no such format.
 pub fn top_label(format: u64) -> u8
     ensures { result ≡ top_label format }
 {
-    let Found::Record(record) = lookup(format) else {
-        return 0;
-    };
-    255 >> (8 - record.m)
+    match AcmFormat::try_from(format) {
+        Ok(format) => format.top_label(),
+        Err(_) => 0,
+    }
 }

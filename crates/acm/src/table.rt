@@ -48,24 +48,24 @@ pub struct Row {
     pub delta: u16,
 }
 
-impl Row {
-    // The record that a row stands for.
-    pub fn widened(self) -> Format
-        ensures { result ≡ record_of self }
-    {
+// The record that a row stands for.
+impl From<Row> for Format {
+    ghost from_gives = { λ row format. format ≡ record_of row };
+
+    fn from(row: Row) -> Format {
         Format {
-            number: self.number as u64,
-            m: self.m as usize,
-            k: self.k as usize,
-            i: self.i as usize,
-            w: self.w as usize,
-            n: self.n as usize,
-            k1: self.k1 as usize,
-            k2: self.k2 as usize,
-            soft: self.soft as usize,
-            survivors: self.survivors as usize,
-            s: self.s as usize,
-            delta: self.delta as usize,
+            number: u64::from(row.number),
+            m: usize::from(row.m),
+            k: usize::from(row.k),
+            i: usize::from(row.i),
+            w: usize::from(row.w),
+            n: usize::from(row.n),
+            k1: usize::from(row.k1),
+            k2: usize::from(row.k2),
+            soft: usize::from(row.soft),
+            survivors: usize::from(row.survivors),
+            s: usize::from(row.s),
+            delta: usize::from(row.delta),
         }
     }
 }

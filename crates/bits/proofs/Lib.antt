@@ -3,7 +3,9 @@ pub mod Digits
 pub mod Fill
 pub mod Legal
 pub mod Lists
+pub mod Parts
 pub mod Passed
+pub mod Refusals
 pub mod Places
 pub mod Same
 pub mod Sequences

@@ -1,5 +1,7 @@
 -- The checks of documents 01 ("Questions at the door") and 02 and their numbers; passed is the answer of a call that fails none.
-use Rattle.std.specs.Prelude.{Bool, List, [], ◌∷◌, ℕ, if◌then◌else◌}
+use Rattle.std.specs.Prelude.{Bool, List, [], ◌∷◌, ℕ, if◌then◌else◌, Result, Ok, Err}
+use Rattle.bits.specs.declared.checks.Refusal.{Refusal}
+use Rattle.bits.specs.declared.checks.Refusal.TheVariants as refusal
 
 abbrev pub passed : ℕ
 passed = 0
@@ -62,3 +64,26 @@ b or_else n = record { holds = b; number = n }
 abbrev pub first_failed : List Check → ℕ
 first_failed [] = passed
 first_failed (c ∷ cs) = if c.holds then first_failed cs else c.number
+
+-- the number of a check that failed
+abbrev pub check_number : Refusal → ℕ
+check_number refusal.Format = bad_format
+check_number refusal.Length = bad_length
+check_number refusal.Element = bad_element
+check_number refusal.Workspace = short_workspace
+check_number refusal.Output = short_output
+check_number refusal.Line = bad_line
+check_number refusal.Pattern = bad_pattern
+check_number refusal.Place = bad_place
+check_number refusal.FrameLength = bad_frame_length
+check_number refusal.ChannelLength = other_frame_length
+check_number refusal.BlockWaits = block_waits
+check_number refusal.CutCount = many_cuts
+check_number refusal.CutPlace = bad_cut
+check_number refusal.Pilots = bad_pilots
+check_number refusal.Memory = short_memory
+
+-- the number of an answer that tells nothing else
+abbrev pub number_of : Result Unit Refusal → ℕ
+number_of (Ok _) = passed
+number_of (Err refusal) = check_number refusal

@@ -1,35 +1,57 @@
-// The number of each check of documents 01 ("Questions at the door") and 02.
-// specs/Checks.antt has the same numbers for the contracts.
+// The checks of the calls. A call that is refused answers which of them failed first.
+ghost use Rattle.std.specs.Prelude.{◌≡◌};
+ghost use Rattle.bits.specs.Checks.{check_number, number_of};
 
-// No check failed.
-pub const PASSED: u8 = 0;
-// The ACM format is 1 to 37.
-pub const FORMAT: u8 = 1;
-// Each input list is as long as the call takes.
-pub const LENGTH: u8 = 2;
-// Each input element is legal.
-pub const ELEMENT: u8 = 3;
-// The workspace is long enough.
-pub const WORKSPACE: u8 = 4;
-// The output is long enough.
-pub const OUTPUT: u8 = 5;
-// The job line is well formed.
-pub const LINE: u8 = 6;
-// The job line's pattern is known.
-pub const PATTERN: u8 = 7;
-// The place asked for is inside.
-pub const PLACE: u8 = 8;
-// The transfer frame has 223 to 65,536 octets.
-pub const FRAME_LENGTH: u8 = 9;
-// The transfer frame is as long as the channel's first.
-pub const CHANNEL_LENGTH: u8 = 10;
-// No whole block waits.
-pub const BLOCK_WAITS: u8 = 11;
-// Each list has at most fifteen cuts.
-pub const CUT_COUNT: u8 = 12;
-// No cut falls below the one before it, and none is beyond the input.
-pub const CUT_PLACE: u8 = 13;
-// The pilot choice is 0 or 1.
-pub const PILOTS: u8 = 14;
-// The interleaver's memory is long enough.
-pub const MEMORY: u8 = 15;
+// A check that failed: what it asks for does not hold. Each has the number that specs/Checks.antt gives it.
+#[derive(Clone, Copy, Debug, PartialEq, Eq)]
+pub enum Refusal {
+    // The ACM format is 1 to 37.
+    Format = 1,
+    // Each input list is as long as the call takes.
+    Length = 2,
+    // Each input element is legal.
+    Element = 3,
+    // The workspace is long enough.
+    Workspace = 4,
+    // The output is long enough.
+    Output = 5,
+    // The job line is well formed.
+    Line = 6,
+    // The job line's pattern is known.
+    Pattern = 7,
+    // The place asked for is inside.
+    Place = 8,
+    // The transfer frame has 223 to 65,536 octets.
+    FrameLength = 9,
+    // The transfer frame is as long as the channel's first.
+    ChannelLength = 10,
+    // No whole block waits.
+    BlockWaits = 11,
+    // Each list has at most fifteen cuts.
+    CutCount = 12,
+    // No cut falls below the one before it, and none is beyond the input.
+    CutPlace = 13,
+    // The pilot choice is 0 or 1.
+    Pilots = 14,
+    // The interleaver's memory is long enough.
+    Memory = 15,
+}
+
+// The check's number.
+impl From<Refusal> for u8 {
+    ghost from_gives = { λ refusal number. number ≡ check_number refusal };
+
+    fn from(refusal: Refusal) -> u8 {
+        refusal as u8
+    }
+}
+
+// The number of the first check that fails, 0 if none does.
+pub fn number(answer: Result<(), Refusal>) -> u8
+    ensures { result ≡ number_of answer }
+{
+    match answer {
+        Ok(()) => 0,
+        Err(refusal) => u8::from(refusal),
+    }
+}

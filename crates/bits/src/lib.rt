@@ -8,6 +8,8 @@ ghost use Rattle.bits.specs.Legal.{all_at_most};
 pub mod checks;
 pub mod steps;
 
+pub use checks::Refusal;
+
 // The sum of two bits modulo 2.
 pub fn sum(a: u8, b: u8) -> u8
     ensures { result ≡ a ⊕ b }
