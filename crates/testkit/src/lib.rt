@@ -2,96 +2,73 @@
 // them.
 #![tactic(auto)]
 
-ghost use Rattle.std.specs.Prelude.{◌≡◌, ◌≤◌, length};
+ghost use Rattle.std.specs.Prelude.{◌≡◌, length};
+ghost use Rattle.std.specs.Iterator.{IsFinite};
 
+use std::fmt::Display;
 use std::io;
 
 // Elements of a buffer: more than any list that a call takes.
 const ROOM: usize = 135168;
 
+// What buffers are filled with before a call: no bit, no label and no slot of a frame.
+pub const UNTOUCHED: u8 = 170;
+
 // A buffer of one value. The contract gives its length alone: lending the array as a slice needs no more, and proofs are slow where they can
 // see so long a list.
-pub fn bytes(value: usize) -> [u8; ROOM]
+pub fn buffer<T: Copy>(value: T) -> [T; ROOM]
     ensures { 135168 ≡ length result }
 {
-    [(value % 256) as u8; ROOM]
-}
-
-pub fn slots(value: usize) -> [u16; ROOM]
-    ensures { 135168 ≡ length result }
-{
-    [(value % 65536) as u16; ROOM]
+    [value; ROOM]
 }
 
 // The next field of a row.
-pub fn print_field(rt: &impl Print, n: u64) -> io::Result<()> {
-    print!(rt; ",{n}")
+pub fn print_field(rt: &impl Print, field: impl Display + Drop) -> io::Result<()> {
+    print!(rt; ",{field}")
 }
 
 pub fn end_row(rt: &impl Print) -> io::Result<()> {
     println!(rt)
 }
 
-// The digest of a list: from 1 on, d becomes (1000003 d + x + 1) modulo 4294967291 at each element x.
-fn digest(list: &[u8]) -> u64 {
-    let mut d: u64 = 1;
-    let mut i = 0;
-    while i < list.len() {
-        d = mixed(d, wide(list[i]));
-        i += 1;
-    }
-    d
-}
-
-// The digest of the first n bytes, as a field.
-pub fn print_digest(rt: &impl Print, list: &[u8], n: usize) -> io::Result<()> {
-    print_field(rt, digest(front(list, n)))
+// The digest of a list, as a field: from 1 on, d becomes (1000003 d + x + 1) modulo 4294967291 at each element x.
+pub fn print_digest<T: Into<u16>, I: Iterator<Item = T> + Drop>(
+    rt: &impl Print,
+    list: I,
+) -> io::Result<()>
+    requires can { I.can_next list }
+    requires ends { IsFinite (I.remaining list) }
+{
+    print_field(rt, list.fold(1, |d, x| mixed(d, x.into())))
 }
 
 // A digest with one element more.
-pub fn mixed(d: u64, x: u64) -> u64 {
-    (d % 4294967291 * 1000003 + x % 65536 + 1) % 4294967291
-}
-
-fn wide(x: u8) -> u64 {
-    x as u64
+fn mixed(d: u64, x: u16) -> u64 {
+    (d % 4294967291 * 1000003 + u64::from(x) + 1) % 4294967291
 }
 
 // Bits from a linear congruential generator, the seed below 2^31.
 pub fn fill_seeded(seed: u64, out: &mut [u8]) {
     let mut x = seed % 2147483648;
-    let mut i = 0;
-    while i < out.len() {
+    for bit in out.iter_mut() {
         x = (x * 1103515245 + 12345) % 2147483648;
-        out[i] = (x / 65536 % 2) as u8;
-        i += 1;
+        *bit = (x / 65536 % 2) as u8;
     }
 }
 
-// The value that buffers are filled with before a call: no bit, no label and no slot of a frame.
-pub const UNTOUCHED: usize = 170;
-
 // The first n elements, or all where there are fewer.
-pub fn front(list: &[u8], n: usize) -> &[u8] {
-    let k = least(n, list.len());
-    &list[..k]
+pub fn front<T>(list: &[T], n: usize) -> &[T] {
+    &list[..n.min(list.len())]
 }
 
-pub fn front_mut(list: &mut [u8], n: usize) -> &mut [u8] {
-    let k = least(n, list.len());
-    &mut list[..k]
+pub fn front_mut<T>(list: &mut [T], n: usize) -> &mut [T] {
+    let n = n.min(list.len());
+    &mut list[..n]
 }
 
 // Sets the element at a place, if there is one.
-pub fn set(list: &mut [u8], at: usize, value: usize) {
-    if at < list.len() {
-        list[at] = (value % 256) as u8;
+pub fn set(list: &mut [u8], at: usize, value: u8) {
+    if let Some(element) = list.get_mut(at) {
+        *element = value;
     }
-}
-
-// The smaller of two lengths.
-pub fn least(a: usize, b: usize) -> usize
-    ensures { result ≤ b }
-{
-    if a < b { a } else { b }
 }
