@@ -2,15 +2,14 @@
 use mathlib.Core.Path.{◌≡◌, refl, sym, ap, ◌∙◌}
 use mathlib.Core.Bool.{Bool, true, false, ◌&&◌, false≢true}
 use mathlib.Core.List.{List, [], ◌∷◌, ◌++◌}
-use Prim.Native.Nat.{ℕ, zero, suc, zero-le, ◌+◌, ◌-◌, ◌≤◌, ◌<◌}
+use Prim.Native.Nat.{ℕ, zero, suc, zero-le, ◌≤◌}
 use native.Mathlib.Omega.{arith}
-use borrow.Author.Tests.{le-leb, leb-true}
+use borrow.Author.Tests.{le-leb, lt-leb, leb-true, leb-false}
+use Rattle.std.specs.Prelude.{fold, max}
 use lib.Dec.{leb}
-use lib.ListN.{length, get_or, take, drop, replicate, drop_of_length-le, take-append-drop}
-use lib.Seq.{drop-drop}
+use lib.ListN.{get_or, take, drop, replicate, take-append-drop}
 use Rattle.bits.specs.Legal.{all_at_most}
 use Rattle.bits.proofs.Cases.{by_cases}
-use Rattle.bits.proofs.Lists.{drop-next}
 use Rattle.bits.proofs.Table.{left-true}
 
 pub and-false : (b : Bool) → (b && false) ≡ false
@@ -21,52 +20,37 @@ and-true : (b : Bool) → (b && true) ≡ b
 and-true true = refl
 and-true false = refl
 
+and_assoc : (a b c : Bool) → ((a && b) && c) ≡ (a && (b && c))
+and_assoc true b c = refl
+and_assoc false b c = refl
+
 -- two lists joined
 pub legal-both : (top : ℕ) (a b : List ℕ) → all_at_most top (a ++ b) ≡ (all_at_most top a && all_at_most top b)
 legal-both top [] b = refl
 legal-both top (x ∷ a) b = by_cases (leb x top) (λ e. rw e (legal-both top a b)) (λ e. rw e)
 
--- a list from a place on, whose next stretch is legal or not
-module _ (top : ℕ) (l : List ℕ) (from to : ℕ) (h : from ≤ to) where
-  abbrev stretch : List ℕ
-  stretch = take (to - from) (drop from l)
-
-  parts : all_at_most top (drop from l) ≡ (all_at_most top stretch && all_at_most top (drop to l))
-  parts =
-      let past : from + (to - from) ≡ to = omega arith in
-      ap (all_at_most top) (sym (take-append-drop (to - from) (drop from l)))
-      ∙ legal-both top stretch (drop (to - from) (drop from l))
-      ∙ ap (λ (r : List ℕ). all_at_most top stretch && all_at_most top r) (drop-drop (to - from) from l ∙ ap (λ (n : ℕ). drop n l) past)
-
-  pub legal_past : all_at_most top stretch ≡ true → all_at_most top (drop from l) ≡ all_at_most top (drop to l)
-  legal_past e = parts ∙ ap (λ (b : Bool). b && all_at_most top (drop to l)) e
-
-  pub illegal_here : all_at_most top stretch ≡ false → all_at_most top (drop from l) ≡ false
-  illegal_here e = parts ∙ ap (λ (b : Bool). b && all_at_most top (drop to l)) e
-
--- a list whose largest element so far is m: one more element, above m or not
-pub larger_next : (top m : ℕ) (l : List ℕ) (i : ℕ) → i < length l → m < get_or l i 0
-    → (leb m top && all_at_most top (drop i l)) ≡ (leb (get_or l i 0) top && all_at_most top (drop (i + 1) l))
-larger_next top m l i h up =
-    by_cases
-    (leb (get_or l i 0) top)
-    (λ e. rw (drop-next l i h, e, le-leb m top (omega (arith, up, leb-true (get_or l i 0) top e))))
-    (λ e. rw (drop-next l i h, e) (and-false (leb m top)))
-
-pub smaller_next : (top m : ℕ) (l : List ℕ) (i : ℕ) → i < length l → get_or l i 0 ≤ m
-    → (leb m top && all_at_most top (drop i l)) ≡ (leb m top && all_at_most top (drop (i + 1) l))
-smaller_next top m l i h low =
+-- a list is legal exactly if its largest element, and one before it, are
+both_at_most : (top m x : ℕ) → leb (max m x) top ≡ (leb m top && leb x top)
+both_at_most top m x =
     by_cases
     (leb m top)
-    (λ e. rw (drop-next l i h, e, le-leb (get_or l i 0) top (omega (arith, low, leb-true m top e))))
-    (λ e. rw e)
+    (λ e. by_cases (leb x top)
+    (λ f. rw (e, f) (le-leb _ _ (omega (arith, leb-true m top e, leb-true x top f))))
+    (λ f. rw (e, f) (lt-leb _ _ (omega (arith, leb-false x top f)))))
+    (λ e. rw e (lt-leb _ _ (omega (arith, leb-false m top e))))
 
--- before the first element, and after the last
-pub largest_start : (top : ℕ) (l : List ℕ) → all_at_most top l ≡ (leb 0 top && all_at_most top (drop 0 l))
-largest_start top l = rw (le-leb 0 top zero-le)
+largest_from : (top m : ℕ) (l : List ℕ) → leb (fold (λ m x. max m x) m l) top ≡ (leb m top && all_at_most top l)
+largest_from top m [] = sym (and-true (leb m top))
+largest_from top m (x ∷ l) = rw (largest_from top (max m x) l, both_at_most top m x) (and_assoc (leb m top) (leb x top) (all_at_most top l))
 
-pub largest_end : (top m : ℕ) (l : List ℕ) (i : ℕ) → length l ≤ i → leb m top ≡ (leb m top && all_at_most top (drop i l))
-largest_end top m l i h = rw (drop_of_length-le l h) (sym (and-true (leb m top)))
+pub largest_of : (top : ℕ) (l : List ℕ) → all_at_most top l ≡ leb (fold (λ m x. max m x) 0 l) top
+largest_of top l = sym (largest_from top 0 l ∙ rw (le-leb 0 top (omega arith)))
+
+-- a stretch and what is left behind it
+pub legal_split : (top largest : ℕ) (rest stretch next : List ℕ) → rest ≡ stretch ++ next → all_at_most top stretch ≡ leb largest top
+    → all_at_most top rest ≡ (leb largest top && all_at_most top next)
+legal_split top largest rest stretch next e h =
+    ap (all_at_most top) e ∙ legal-both top stretch next ∙ ap (λ (b : Bool). b && all_at_most top next) h
 
 pub legal_head : (top x : ℕ) (l : List ℕ) → all_at_most top (x ∷ l) ≡ true → x ≤ top
 legal_head top x l e = by_cases (leb x top) (leb-true x top) (λ f. absurd (false≢true (rw f at e)))

@@ -3,13 +3,10 @@ ghost use Rattle.std.specs.Prelude.{◌≡◌, ◌+◌, ◌≤◌, length};
 ghost use Rattle.std.proofs.lemmas.List.Edits.{sets};
 
 // The list, from the place at on.
+#[tactic(auto, using(crate::proofs::Parts::sets_of_part))]
 pub fn put(list: &[u8], out: &mut [u8], at: usize)
     requires { at + length list.now ≤ length out.old }
     ensures { out.new ≡ sets out.old at list.now }
 {
-    let mut i = 0;
-    while i < list.len() {
-        out[at + i] = list[i];
-        i += 1;
-    }
+    out[at..at + list.len()].copy_from_slice(list);
 }
