@@ -83,7 +83,7 @@ check_number refusal.CutPlace = bad_cut
 check_number refusal.Pilots = bad_pilots
 check_number refusal.Memory = short_memory
 
--- the number of an answer that tells nothing else
-abbrev pub number_of : Result Unit Refusal → ℕ
+-- the number of an answer, whatever else it tells
+abbrev pub number_of : {A : Type 0} → Result A Refusal → ℕ
 number_of (Ok _) = passed
 number_of (Err refusal) = check_number refusal
