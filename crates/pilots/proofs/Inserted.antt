@@ -1,15 +1,11 @@
 -- Laws of the labels with pilots.
-use mathlib.Core.Path.{◌≡◌, ap, ◌∙◌}
-use mathlib.Core.List.{List, [], ◌∷◌, ◌++◌, append_assoc}
+use mathlib.Core.Path.{◌≡◌, ◌∙◌}
+use mathlib.Core.List.{List, [], ◌∷◌, ◌++◌, append_assoc, append-nil}
 use Prim.Native.Nat.{ℕ, zero, suc, ◌+◌, ◌*◌, ◌/◌, ◌≤◌, ◌<◌}
 use native.Mathlib.Omega.{arith}
-use lib.ListN.{length, take, drop, length-append, length-drop, get_or-replicate}
-use lib.Seq.{length-take-le, take-append-le, drop-append-le}
-use Rattle.bits.proofs.Lists.{drop-next}
-use Rattle.pilots.specs.Pilots.{inserted, pilot, piloted_length, pilots, subsection_labels, subsection_pilots, with_pilots}
-
-pub pilots-next : (i : ℕ) → i < subsection_pilots → drop i pilots ≡ pilot ∷ drop (i + 1) pilots
-pilots-next i h = drop-next pilots i h ∙ ap (λ (x : ℕ). x ∷ drop (i + 1) pilots) (get_or-replicate subsection_pilots i pilot 0 h)
+use lib.ListN.{length, take, drop, length-append, length-drop, drop_of_length-le}
+use lib.Seq.{length-take-le, take-append-le, drop-append-le, take_all}
+use Rattle.pilots.specs.Pilots.{inserted, piloted_length, pilots, subsection_labels, subsection_pilots, with_pilots}
 
 -- a whole sub-section, and what follows it
 pub with_next : (labels : List ℕ) → subsection_labels ≤ length labels
@@ -23,6 +19,12 @@ with_next labels h =
 pub with_rest : (labels : List ℕ) → length labels < subsection_labels → with_pilots labels ≡ labels
 unfolding with_pilots
 with_rest labels h = let z : length labels / subsection_labels ≡ 0 = omega arith in rw z
+
+-- a whole sub-section alone
+pub with_whole : (labels : List ℕ) → length labels ≡ subsection_labels → with_pilots labels ≡ labels ++ pilots
+with_whole labels e =
+    let none : drop subsection_labels labels ≡ [] = drop_of_length-le labels {i = subsection_labels} (omega (arith, e)) in
+    with_next labels (omega (arith, e)) ∙ rw (none, with_rest [] (omega arith), take_all subsection_labels labels (omega (arith, e))) (simp append-nil)
 
 inserted-length : (n : ℕ) (labels : List ℕ) → n * subsection_labels ≤ length labels → length (inserted n labels) ≡ length labels + n * subsection_pilots
 inserted-length zero labels h = omega arith

@@ -1,41 +1,54 @@
--- The turns of the loop that puts labels with pilots: what is left to store are the labels from a place on, with their pilots.
-use mathlib.Core.Path.{◌≡◌, ap, ◌∙◌}
-use mathlib.Core.List.{List, ◌++◌}
-use Prim.Native.Nat.{ℕ, ◌+◌, ◌-◌, ◌≤◌, ◌<◌}
-use native.Mathlib.Omega.{arith}
-use lib.ListN.{length, take, drop, length-append, length-drop}
-use lib.Seq.{sets, drop-drop, length-take-le, take_all}
-use Rattle.bits.proofs.Fill.{Left, left-stretch}
-use Rattle.pilots.specs.Pilots.{piloted_length, pilots, subsection_labels, subsection_length, with_pilots}
-use Rattle.pilots.proofs.Inserted.{with_length, with_next, with_rest}
+-- The turns of the loop that puts labels with pilots, a chunk at a time: what is left to store are the labels that are left, with their pilots.
+use Rattle.std.proofs.Common.{◌≡◌, ◌∙◌, ℕ, ◌+◌, ◌*◌, ◌≤◌, ◌<◌, List, [], ◌++◌, arith, length, append-nil, length-append, min}
+use Rattle.std.proofs.lemmas.List.{nil_from_length}
+use lib.Dec.{leb}
+use lib.Seq.{sets}
+use borrow.Author.Tests.{leb-true, leb-false}
+use Rattle.bits.proofs.Cases.{by_cases}
+use Rattle.bits.proofs.Fill.{sets-append}
+use Rattle.pilots.specs.Pilots.{piloted_length, subsection_labels, subsection_length, with_pilots}
+use Rattle.pilots.proofs.Inserted.{with_append, with_length, with_rest}
 
--- the labels from a place on, n of them
-module _ (labels : List ℕ) (from n : ℕ) where
-  long : length (drop from labels) ≡ length labels - from
-  long = length-drop from labels
+-- after i chunks: every one before the last is a whole sub-section
+pub record Chunked (out₀ : List ℕ) (at : ℕ) (labels out : List ℕ) (i size : ℕ) (rest : List ℕ) : Type 0 where
+  pub whole : size ≡ subsection_labels
+  pub count : 0 < length rest → subsection_labels * i + length rest ≡ length labels
+  pub left : sets out (at + subsection_length * i) (with_pilots rest) ≡ sets out₀ at (with_pilots labels)
 
-  pub part_length : n ≤ length labels - from → length (take n (drop from labels)) ≡ n
-  part_length h = length-take-le n (drop from labels) (omega (arith, long))
+pub chunked_start : (out₀ : List ℕ) (at : ℕ) (labels : List ℕ) (size : ℕ) → size ≡ subsection_labels → Chunked out₀ at labels out₀ 0 size labels
+chunked_start out₀ at labels size e =
+    let z : at + subsection_length * 0 ≡ at = omega arith in
+    record { whole = e; count = λ h. omega arith; left = rw z }
 
-  module _ {out₀ : List ℕ} {at : ℕ} {out : List ℕ} {to : ℕ} (left : Left out₀ at (with_pilots labels) out to (with_pilots (drop from labels))) where
-    pub room-left : at + piloted_length (length labels) ≤ length out₀ → to + piloted_length (length labels - from) ≤ length out
-    room-left room =
-        let rest : length (with_pilots (drop from labels)) ≡ piloted_length (length labels - from) = with_length (drop from labels) ∙ ap piloted_length long in
-        omega (arith, left.count, left.same, with_length labels, rest)
+-- one chunk more
+module _ {out₀ : List ℕ} {at : ℕ} {labels out : List ℕ} {i size : ℕ} {rest : List ℕ} (chunked : Chunked out₀ at labels out i size rest)
+    (part more : List ℕ) (split : rest ≡ part ++ more) (long : length part ≡ min size (length rest)) (some : 0 < length rest) where
+  lengths : length rest ≡ length part + length more
+  lengths = rw split (length-append part more)
 
-    -- a sub-section more
-    pub turn : (new : List ℕ) → n ≡ subsection_labels → subsection_labels ≤ length labels - from → new ≡ sets out to (take n (drop from labels) ++ pilots)
-        → Left out₀ at (with_pilots labels) new (to + subsection_length) (with_pilots (drop (from + subsection_labels) labels))
-    turn new e h stored =
-        let rest = drop from labels in
-        let split : with_pilots rest ≡ take n rest ++ pilots ++ with_pilots (drop subsection_labels rest) = with_next rest (omega (arith, long)) ∙ rw e in
-        let past : to + subsection_length ≡ to + length (take n rest ++ pilots) = omega (arith, length-append (take n rest) pilots, part_length (omega arith)) in
-        rw (← drop-drop subsection_labels from labels) (left-stretch new (take n rest ++ pilots) (with_pilots (drop subsection_labels rest)) (to + subsection_length) split stored past left)
+  pub chunk_short : length part ≤ subsection_labels
+  chunk_short = omega (arith, chunked.whole)
 
-    -- the labels that are over
-    pub ended : (new : List ℕ) → n ≡ length labels - from → length labels - from < subsection_labels → new ≡ sets out to (take n (drop from labels))
-        → new ≡ sets out₀ at (with_pilots labels)
-    ended new e h stored =
-        let rest = drop from labels in
-        let whole = take_all n rest (omega (arith, long)) in
-        stored ∙ rw (whole, ← with_rest rest (omega (arith, long))) left.rest
+  pub chunk_room : (room : ℕ) → at + piloted_length (length labels) ≤ room → at + subsection_length * i + piloted_length (length part) ≤ room
+  chunk_room room h = omega (arith, chunked.count some, lengths)
+
+  pub chunked_turn : (new : List ℕ) (next same : ℕ) → new ≡ sets out (at + subsection_length * i) (with_pilots part) → next ≡ i + 1 → same ≡ size
+      → Chunked out₀ at labels new next same more
+  chunked_turn new next same stored e kept = record {
+    whole = kept ∙ chunked.whole;
+    count = λ h. omega (arith, chunked.count some, lengths, chunked.whole);
+    left =
+        by_cases (leb subsection_labels (length part))
+        (λ t.
+        let full : length part ≡ subsection_labels = omega (arith, chunk_short, leb-true _ _ t) in
+        let past : at + subsection_length * next ≡ at + subsection_length * i + length (with_pilots part) = omega (arith, with_length part, full) in
+        rw (past, stored, ← sets-append out (at + subsection_length * i) (with_pilots part) (with_pilots more), ← with_append 1 part more full, ← split) chunked.left)
+        (λ f.
+        let none : more ≡ [] = nil_from_length more (omega (arith, leb-false _ _ f, lengths, chunked.whole)) in
+        let all : rest ≡ part = split ∙ rw none (append-nil part) in
+        rw (none, with_rest [] (omega arith), stored, ← all) chunked.left);
+  }
+
+pub chunked_end : {out₀ : List ℕ} {at : ℕ} {labels out : List ℕ} {i size : ℕ} {rest : List ℕ} → Chunked out₀ at labels out i size rest
+    → length rest ≡ 0 → out ≡ sets out₀ at (with_pilots labels)
+chunked_end {rest} chunked none = let e : rest ≡ [] = nil_from_length rest none in rw (e, with_rest [] (omega arith)) at chunked.left

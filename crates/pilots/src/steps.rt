@@ -1,7 +1,7 @@
 // Opened to the frame alone: labels as slots, without pilots and with them.
-ghost use Rattle.std.specs.Prelude.{◌≡◌, ◌++◌, ◌+◌, ◌≤◌, length};
+ghost use Rattle.std.specs.Prelude.{◌≡◌, ◌+◌, ◌≤◌, length};
 ghost use Rattle.std.proofs.lemmas.List.Edits.{sets};
-ghost use Rattle.pilots.specs.Pilots.{pilots, piloted_length, subsection_pilots, with_pilots};
+ghost use Rattle.pilots.specs.Pilots.{piloted_length, pilots, subsection_labels, subsection_pilots, with_pilots};
 
 // A sub-section (table 5-2): labels, and the pilots that follow them.
 pub const SUBSECTION_LABELS: usize = 540;
@@ -18,23 +18,20 @@ pub fn put(labels: &[u8], out: &mut [u16], at: usize)
     requires { at + piloted_length (length labels.now) ≤ length out.old }
     ensures { out.new ≡ sets out.old at (with_pilots labels.now) }
 {
-    let mut from = 0;
-    let mut to = at;
-    while SUBSECTION_LABELS <= labels.len() - from {
-        put_subsection(&labels[from..from + SUBSECTION_LABELS], out, to);
-        from += SUBSECTION_LABELS;
-        to += SUBSECTION_LENGTH;
+    for (i, part) in labels.chunks(SUBSECTION_LABELS).enumerate() {
+        put_subsection(part, out, at + SUBSECTION_LENGTH * i);
     }
-    put_labels(&labels[from..], out, to);
 }
 
-// Labels and their pilots, from the slot at on.
+// A sub-section's labels and their pilots, from the slot at on; fewer labels have none.
 fn put_subsection(labels: &[u8], out: &mut [u16], at: usize)
-    requires { at + length labels.now + subsection_pilots ≤ length out.old }
-    ensures { out.new ≡ sets out.old at (labels.now ++ pilots) }
+    requires { (length labels.now ≤ subsection_labels) × (at + piloted_length (length labels.now) ≤ length out.old) }
+    ensures { out.new ≡ sets out.old at (with_pilots labels.now) }
 {
     put_labels(labels, out, at);
-    put_pilots(out, at + labels.len());
+    if labels.len() == SUBSECTION_LABELS {
+        put_pilots(out, at + SUBSECTION_LABELS);
+    }
 }
 
 // A sub-section's pilots, from the slot at on.
@@ -42,11 +39,7 @@ fn put_pilots(out: &mut [u16], at: usize)
     requires { at + subsection_pilots ≤ length out.old }
     ensures { out.new ≡ sets out.old at pilots }
 {
-    let mut i = 0;
-    while i < SUBSECTION_PILOTS {
-        out[at + i] = PILOT;
-        i += 1;
-    }
+    out[at..at + SUBSECTION_PILOTS].fill(PILOT);
 }
 
 // Labels as slots, from the slot at on.
@@ -54,9 +47,7 @@ pub fn put_labels(labels: &[u8], out: &mut [u16], at: usize)
     requires { at + length labels.now ≤ length out.old }
     ensures { out.new ≡ sets out.old at labels.now }
 {
-    let mut i = 0;
-    while i < labels.len() {
-        out[at + i] = labels[i] as u16;
-        i += 1;
+    for (i, &label) in labels.iter().enumerate() {
+        out[at + i] = u16::from(label);
     }
 }

@@ -1,7 +1,9 @@
-use native.Mathlib.Omega.{arith}
-use Rattle.bits.proofs.Fill.{fill_next}
-use Rattle.pilots.proofs.Inserted.{pilots-next}
+use Rattle.std.proofs.Common.{◌≡◌, arith, rules}
+use Rattle.bits.proofs.Parts.{sets_of_part}
+use Rattle.pilots.specs.Pilots.{pilots}
 use Rattle.pilots.proofs.steps.put_pilots.Goals as goal
 
-pub loop-i-preserved : goal.loop-i-preserved
-loop-i-preserved c = (omega arith, fill_next _ (pilots-next _ c.loop-i-test.true) c.loop-i.invariant.1)
+pub returns : goal.returns
+returns c =
+    let e : c.fill.new.self ≡ pilots = search (rules, c.fill.ensures.after) in
+    rw e (sets_of_part _ _ _ pilots (omega arith) (omega arith))
