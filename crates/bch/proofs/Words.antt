@@ -8,9 +8,9 @@ use native.Mathlib.Omega.{arith}
 use borrow.Author.Tests.{ltb-true}
 use lib.Bits.{bit_xor}
 use lib.Dec.{ltb}
-use lib.ListN.{length, get_or, take, drop, take-append-drop}
+use lib.ListN.{length, get_or, take, drop}
 use lib.Pow.{pow_pos}
-use lib.Seq.{take_at, drop_at, drop-drop}
+use lib.Seq.{take_at, drop_at}
 use Rattle.bits.specs.Legal.{all_bits}
 use Rattle.bits.specs.Same.{same}
 use Rattle.bits.specs.Sum.{◌⊕*◌}
@@ -60,14 +60,14 @@ module _ (word byte : ℕ) (entry : ℕ) (is : bits_of check_length entry ≡ re
       ∙ ap (λ (l : List ℕ). (drop byte_length l ++ zeros byte_length) ⊕* register_from lower (zeros check_length) (us ⊕* take byte_length l)) (bits-split byte_length staying word)
       ∙ ap₂ (λ (a b : List ℕ). (a ++ zeros byte_length) ⊕* register_from lower (zeros check_length) (us ⊕* b)) (drop_at high low byte_length many) (take_at high low byte_length many))
 
--- the list from i on, fed to a register that then holds another word
-pub feed_next : (list : List ℕ) (i word next byte : ℕ) → bits_of byte_length byte ≡ take byte_length (drop i list)
+-- what is left of a list after its first eight bits, fed to a register that then holds another word
+pub feed_next : (list bits rest : List ℕ) (word next byte : ℕ) → list ≡ bits ++ rest → bits_of byte_length byte ≡ bits
     → bits_of check_length next ≡ register_from lower (bits_of check_length word) (bits_of byte_length byte)
-    → register_from lower (bits_of check_length word) (drop i list) ≡ register_from lower (bits_of check_length next) (drop (i + byte_length) list)
-feed_next list i word next byte b e =
-    ap (register_from lower (bits_of check_length word)) (sym (take-append-drop byte_length (drop i list)) ∙ ap₂ (λ (k l : List ℕ). k ++ l) (sym b) (drop-drop byte_length i list))
-    ∙ register_append lower (bits_of check_length word) (bits_of byte_length byte) (drop (i + byte_length) list)
-    ∙ ap (λ (r : List ℕ). register_from lower r (drop (i + byte_length) list)) (sym e)
+    → register_from lower (bits_of check_length next) rest ≡ register_from lower (bits_of check_length word) list
+feed_next list bits rest word next byte split b e =
+    ap (λ (r : List ℕ). register_from lower r rest) (e ∙ ap (register_from lower (bits_of check_length word)) b)
+    ∙ sym (register_append lower (bits_of check_length word) bits rest)
+    ∙ ap (register_from lower (bits_of check_length word)) (sym split)
 
 -- a table, by one test over its entries
 abbrev test : ℕ → ℕ → Bool

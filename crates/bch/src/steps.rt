@@ -1,6 +1,6 @@
 // Opened to the layers above alone: a codeword of the BCH code. The register is held in a word, its first bit weighing most, and takes eight bits
 // at once, for speed: the eight that leave it, added to the eight that come, choose the entry of a table that is added to those that stay.
-ghost use Rattle.std.specs.Prelude.{◌≡◌, true, ◌+◌, ◌%◌, ◌^◌, ◌≤◌, ◌<◌, length, take, drop};
+ghost use Rattle.std.specs.Prelude.{◌≡◌, true, ◌+◌, ◌%◌, ◌^◌, ◌≤◌, ◌<◌, length};
 ghost use Rattle.std.proofs.lemmas.List.Edits.{sets};
 ghost use Rattle.bits.specs.Legal.{all_bits};
 ghost use Rattle.bits.specs.Words.{bits_of};
@@ -20,7 +20,7 @@ pub fn encode(list: &[u8], out: &mut [u8], at: usize)
     requires { (all_bits list.now ≡ true) × (length list.now % byte_length ≡ 0) × (at + (length list.now + check_length) ≤ length out.old) }
     ensures { out.new ≡ sets out.old at (coded list.now) }
 {
-    bits::steps::put(list, out, at);
+    out[at..at + list.len()].copy_from_slice(list);
     put_bits(check_word(list), out, at + list.len());
 }
 
@@ -38,10 +38,8 @@ fn run(table: &[u64], list: &[u8]) -> u64
     ensures { bits_of check_length result ≡ register_from lower (zeros check_length) list.now }
 {
     let mut word = 0;
-    let mut i = 0;
-    while i < list.len() {
-        word = feed(table, word, pack(list, i));
-        i += BYTE_LENGTH;
+    for bits in list.chunks_exact(BYTE_LENGTH) {
+        word = feed(table, word, pack(bits));
     }
     word
 }
@@ -55,24 +53,16 @@ fn feed(table: &[u64], word: u64, byte: u64) -> u64
     (word * (1 << BYTE_LENGTH) % (1 << CHECK_LENGTH)) ^ table[leaving]
 }
 
-// Eight bits from the place at on, the first weighing 128.
-fn pack(list: &[u8], at: usize) -> u64
-    requires { (all_bits list.now ≡ true) × (at + byte_length ≤ length list.now) }
-    ensures { (result < 2 ^ byte_length) × (bits_of byte_length result ≡ take byte_length (drop at list.now)) }
+// The byte of eight bits, the first weighing 128.
+fn pack(bits: &[u8]) -> u64
+    requires { (all_bits bits.now ≡ true) × (length bits.now ≡ byte_length) }
+    ensures { (result < 2 ^ byte_length) × (bits_of byte_length result ≡ bits.now) }
 {
     let mut byte = 0;
-    let mut k = 0;
-    while k < BYTE_LENGTH {
-        byte = 2 * byte + wide(list[at + k]);
-        k += 1;
+    for &bit in bits {
+        byte = 2 * byte + u64::from(bit);
     }
     byte
-}
-
-fn wide(bit: u8) -> u64
-    ensures { result ≡ bit }
-{
-    bit as u64
 }
 
 // The check bits that a word holds, from the place at on.
@@ -80,9 +70,7 @@ fn put_bits(word: u64, out: &mut [u8], at: usize)
     requires { at + check_length ≤ length out.old }
     ensures { out.new ≡ sets out.old at (bits_of check_length word) }
 {
-    let mut k = 0;
-    while k < CHECK_LENGTH {
+    for k in 0..CHECK_LENGTH {
         out[at + k] = ((word >> (CHECK_LENGTH - 1 - k)) % 2) as u8;
-        k += 1;
     }
 }

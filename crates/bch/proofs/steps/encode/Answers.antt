@@ -1,20 +1,19 @@
 -- The bits are stored from the front, their check bits behind them.
-use mathlib.Core.Path.{◌≡◌, sym, ap, ◌∙◌}
+use mathlib.Core.Path.{◌≡◌, sym, ◌∙◌}
 use mathlib.Core.List.{List}
-use Prim.Native.Nat.{ℕ, ◌+◌}
+use Prim.Native.Nat.{ℕ, ◌+◌, ◌≤◌}
+use native.Mathlib.Omega.{arith}
+use borrow.Rule.Slice.PartMut.{put_mid}
 use lib.ListN.{length}
 use lib.Seq.{sets}
 use Rattle.bits.proofs.Fill.{sets-append}
-use Rattle.bits.specs.Words.{bits_of}
-use Rattle.bch.specs.Bch.{check_length, check_bits, coded}
+use Rattle.bits.proofs.Parts.{sets_of_part}
+use Rattle.bch.specs.Bch.{check_bits, coded}
 use Rattle.bch.proofs.steps.encode.Goals as goal
 
-behind : (out list bits : List ℕ) (at : ℕ) → bits ≡ check_bits list → sets (sets out at list) (at + length list) bits ≡ sets out at (coded list)
-behind out list bits at e = rw e (sym (sets-append out at list (check_bits list)))
+behind : (out list new bits : List ℕ) (at n : ℕ) → new ≡ list → length list ≡ n → at + n ≤ length out → bits ≡ check_bits list
+    → sets (put_mid at n out new) (at + length list) bits ≡ sets out at (coded list)
+behind out list new bits at n is e room b = rw (is, sets_of_part at n out list e room, b) (sym (sets-append out at list (check_bits list)))
 
 pub returns : goal.returns
-returns c =
-    let a = c.args in
-    c.put_bits.ensures
-    ∙ ap (λ (l : List ℕ). sets l (a.at + length a.list.now) (bits_of check_length c.check_word.result)) c.put.ensures
-    ∙ behind a.out.now a.list.now (bits_of check_length c.check_word.result) a.at c.check_word.ensures
+returns c = c.put_bits.ensures ∙ behind _ _ _ _ c.args.at _ c.copy_from_slice.ensures.after (omega arith) (omega arith) c.check_word.ensures

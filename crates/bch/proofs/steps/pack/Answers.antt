@@ -4,43 +4,50 @@ use Prim.Native.Nat.{ℕ, ◌+◌, ◌*◌, ◌^◌, ◌≤◌, ◌<◌}
 use native.Mathlib.Nat.{pow-succ'}
 use native.Mathlib.Numerals.{add-one}
 use native.Mathlib.Omega.{arith}
-use lib.ListN.{length, get_or, take, drop, length-drop}
+use lib.ListN.{length, get_or, take}
 use lib.Pow.{pow_mono}
-use lib.Seq.{take-suc, get_or-drop}
+use lib.Seq.{take-suc, take_all}
 use Rattle.bits.specs.Words.{bits_of}
 use Rattle.bits.proofs.Legal.{legal-at}
 use Rattle.bits.proofs.Words.{bits-more}
 use Rattle.bch.specs.Register.{byte_length}
 use Rattle.bch.proofs.steps.pack.Goals as goal
 
-module _ (list : List ℕ) (at byte k bit : ℕ) (b : bit ≤ 1) (is : bit ≡ get_or list (at + k) 0) where
-  more-small : byte < 2 ^ k → 2 * byte + bit < 2 ^ (k + 1)
-  more-small h = rw (add-one k, pow-succ' 2 k) (omega arith)
+pub loop-bit-init : goal.loop-bit-init
+unfolding bits_of
+loop-bit-init c = (omega arith, refl)
 
-  more : at + k < length list → bits_of k byte ≡ take k (drop at list) → bits_of (k + 1) (2 * byte + bit) ≡ take (k + 1) (drop at list)
-  more h e =
-      let inside : k < length (drop at list) = rw length-drop (omega arith) in
-      bits-more k byte bit b
-      ∙ ap (λ (l : List ℕ). l ++ (bit ∷ [])) e
-      ∙ ap (λ (x : ℕ). take k (drop at list) ++ (x ∷ [])) (is ∙ sym (get_or-drop at list k 0))
-      ∙ sym (ap (λ (j : ℕ). take j (drop at list)) (add-one k) ∙ take-suc (drop at list) k 0 inside)
+more-small : (byte k bit : ℕ) → bit ≤ 1 → byte < 2 ^ k → 2 * byte + bit < 2 ^ (k + 1)
+more-small byte k bit b h = rw (add-one k, pow-succ' 2 k) (omega arith)
 
--- a byte so far is below 256
-low : (byte k : ℕ) → k ≤ byte_length → byte < 2 ^ k → byte < 256
+more : (bits : List ℕ) (byte k bit : ℕ) → bit ≡ get_or bits k 0 → bit ≤ 1 → k < length bits → bits_of k byte ≡ take k bits
+    → bits_of (k + 1) (2 * byte + bit) ≡ take (k + 1) bits
+more bits byte k bit is b h e =
+    bits-more k byte bit b
+    ∙ ap (λ (l : List ℕ). l ++ (bit ∷ [])) e
+    ∙ ap (λ (x : ℕ). take k bits ++ (x ∷ [])) is
+    ∙ sym (ap (λ (j : ℕ). take j bits) (add-one k) ∙ take-suc bits k 0 h)
+
+pub loop-bit-preserved : goal.loop-bit-preserved
+loop-bit-preserved c =
+    let b : c.from.result ≤ 1 = omega (arith, c.from.ensures, legal-at 1 c.args.bits.now c.requires.0 c.loop-bit.bit-index) in (
+      more-small c.loop-bit.byte c.loop-bit.bit-index c.from.result b c.loop-bit.invariant.0,
+      more c.args.bits.now c.loop-bit.byte c.loop-bit.bit-index c.from.result c.from.ensures b c.loop-bit-test.true c.loop-bit.invariant.1,
+    )
+
+-- a byte so far is below 2^k, and so below 256 in the end
+low : (byte k : ℕ) → k ≤ byte_length → byte < 2 ^ k → byte < 2 ^ byte_length
 low byte k h g = omega (arith, pow_mono {i = k} {j = byte_length} h)
 
-pub loop-k-init : goal.loop-k-init
-unfolding bits_of
-loop-k-init c = (omega arith, omega arith, refl)
+pub overflow_mul-byte : goal.overflow_mul-byte
+overflow_mul-byte c = omega (arith, low c.loop-bit.byte c.loop-bit.bit-index (omega arith) c.loop-bit.invariant.0)
 
-pub loop-k-preserved : goal.loop-k-preserved
-loop-k-preserved c =
-    let s = c.before.before in
-    let list = s.args.list.now in
-    let at = s.args.at in
-    let k = c.loop-k.k in
-    let bit : c.wide.result ≤ 1 = omega (arith, c.wide.ensures, legal-at 1 list s.requires.0 (at + k)) in (
-      omega arith,
-      more-small list at c.loop-k.byte k c.wide.result bit c.wide.ensures c.loop-k.invariant.1,
-      more list at c.loop-k.byte k c.wide.result bit c.wide.ensures (omega (arith, s.requires.1, c.loop-k-test.true)) c.loop-k.invariant.2,
+pub overflow_add-byte : goal.overflow_add-byte
+overflow_add-byte c = omega (arith, low c.loop-bit.byte c.loop-bit.bit-index (omega arith) c.loop-bit.invariant.0, legal-at 1 c.args.bits.now c.requires.0 c.loop-bit.bit-index)
+
+pub returns : goal.returns
+returns c =
+    let all : c.loop-bit.bit-index ≡ byte_length = omega arith in (
+      low c.loop-bit.byte c.loop-bit.bit-index (omega arith) c.loop-bit.invariant.0,
+      rw all at c.loop-bit.invariant.1 ∙ take_all byte_length c.args.bits.now (omega arith),
     )
