@@ -1,11 +1,12 @@
 // Opened to the frame alone: the header's slots. Marker and descriptor are held as words of 64 bits, of which the first weighs most.
-ghost use Rattle.std.specs.Prelude.{◌≡◌, true, map, ◌+◌, ◌*◌, ◌/◌, ◌%◌, ◌^◌, ◌≤◌, ◌<◌, length};
+ghost use Rattle.std.specs.Prelude.{◌≡◌, map, ◌+◌, ◌*◌, ◌/◌, ◌%◌, ◌^◌, ◌≤◌, ◌<◌, length};
 ghost use Rattle.std.proofs.lemmas.List.Edits.{sets};
 ghost use Rattle.bits.specs.Words.{bits_of, unpacked};
-ghost use Rattle.acm.specs.Formats.{is_format};
 ghost use Rattle.header.specs.Descriptor.{add_rows, descriptor, pilots_on};
 ghost use Rattle.header.specs.Header.{header, header_code, header_length, header_slots};
 ghost use Rattle.header.specs.Words.{word_length};
+
+use acm::AcmFormat;
 
 const WORD_LENGTH: usize = 64;
 
@@ -44,20 +45,20 @@ const ROWS: [u64; 7] = [
 const SCRAMBLING: u64 = 0x719D83C953422DFA;
 
 // The header of a format and a pilot choice, to the front of out.
-pub fn put(format: u64, pilots: u64, out: &mut [u16])
-    requires { (is_format format ≡ true) × (pilots ≤ pilots_on) × (header_length ≤ length out.old) }
-    ensures { out.new ≡ sets out.old 0 (header format pilots) }
+pub fn put(format: AcmFormat, pilots: u64, out: &mut [u16])
+    requires { (pilots ≤ pilots_on) × (header_length ≤ length out.old) }
+    ensures { out.new ≡ sets out.old 0 (header format.number pilots) }
 {
     put_words(&MARKER, out);
     put_word(descriptor_word(format, pilots), out, MARKER_LENGTH);
 }
 
 // The frame descriptor: the pilot choice is b6, behind the format's bits.
-fn descriptor_word(format: u64, pilots: u64) -> u64
-    requires { (is_format format ≡ true) × (pilots ≤ pilots_on) }
-    ensures { bits_of word_length result ≡ descriptor format pilots }
+fn descriptor_word(format: AcmFormat, pilots: u64) -> u64
+    requires { pilots ≤ pilots_on }
+    ensures { bits_of word_length result ≡ descriptor format.number pilots }
 {
-    add_rows(2 * format + pilots, &ROWS) ^ SCRAMBLING
+    add_rows(2 * format.number + pilots, &ROWS) ^ SCRAMBLING
 }
 
 // The sum of the rows whose bits are 1: there is a bit for each row, the first weighs most.
@@ -66,12 +67,10 @@ fn add_rows(bits: u64, rows: &[u64]) -> u64
     ensures { bits_of word_length result ≡ add_rows (bits_of word_length 0) (bits_of (length rows.now) bits) (map (bits_of word_length) rows.now) }
 {
     let mut word = 0;
-    let mut i = 0;
-    while i < rows.len() {
+    for (i, &row) in rows.iter().enumerate() {
         if bit(bits, rows.len() - 1 - i) == 1 {
-            word ^= rows[i];
+            word ^= row;
         }
-        i += 1;
     }
     word
 }
@@ -81,10 +80,8 @@ fn put_words(words: &[u64], out: &mut [u16])
     requires { word_length * length words.now ≤ length out.old }
     ensures { out.new ≡ sets out.old 0 (header_slots (unpacked word_length words.now)) }
 {
-    let mut i = 0;
-    while i < words.len() {
-        put_word(words[i], out, WORD_LENGTH * i);
-        i += 1;
+    for (i, &word) in words.iter().enumerate() {
+        put_word(word, out, WORD_LENGTH * i);
     }
 }
 
@@ -93,10 +90,8 @@ fn put_word(word: u64, out: &mut [u16], at: usize)
     requires { at + word_length ≤ length out.old }
     ensures { out.new ≡ sets out.old at (header_slots (bits_of word_length word)) }
 {
-    let mut k = 0;
-    while k < WORD_LENGTH {
+    for k in 0..WORD_LENGTH {
         out[at + k] = header_code(bit(word, WORD_LENGTH - 1 - k));
-        k += 1;
     }
 }
 
@@ -108,11 +103,9 @@ fn bit(word: u64, weight: usize) -> u64
     (word >> weight) % 2
 }
 
+// The slot of a bit.
 fn header_code(bit: u64) -> u16
     ensures { result ≡ header_code bit }
 {
-    if bit == 0 {
-        return HEADER_ZERO;
-    }
-    HEADER_ONE
+    if bit == 0 { HEADER_ZERO } else { HEADER_ONE }
 }

@@ -7,4 +7,4 @@ use Rattle.header.proofs.steps.descriptor_word.Goals as goal
 
 pub returns : goal.returns
 unfolding G scrambling bits_of
-returns c = descriptor-bits _ _ c.requires.1 _ _ c.add_rows.ensures refl
+returns c = descriptor-bits _ _ c.requires _ _ c.add_rows.ensures refl

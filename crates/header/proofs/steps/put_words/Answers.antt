@@ -1,11 +1,9 @@
-use native.Mathlib.Omega.{arith}
 use Rattle.bits.proofs.Fill.{fill_end}
 use Rattle.header.proofs.Words.{words_next, words_none}
 use Rattle.header.proofs.steps.put_words.Goals as goal
 
 pub loop-i-preserved : goal.loop-i-preserved
-loop-i-preserved c =
-    (omega arith, words_next _ _ _ c.loop-i-test.true c.put_word.ensures c.loop-i.invariant.1)
+loop-i-preserved c = words_next _ _ _ c.loop-i-test.true c.put_word.ensures c.loop-i.invariant
 
 pub returns : goal.returns
-returns c = fill_end (words_none _ _ c.loop-i-test.false) c.loop-i.invariant.1
+returns c = fill_end (words_none _ _ c.loop-i-test.false) c.loop-i.invariant

@@ -1,6 +1,6 @@
 -- What is left to store after i words are the bits of the words from i on.
-use Prim.Native.Nat.{◌*◌, ◌-◌, ◌≤◌}
-use lib.ListN.{length, drop}
+use Prim.Native.Nat.{◌*◌}
+use lib.ListN.{drop}
 use Rattle.bits.specs.Words.{unpacked}
 use Rattle.bits.proofs.Fill.{Left}
 use Rattle.header.specs.Header.{header_slots}
@@ -9,8 +9,4 @@ use Rattle.header.proofs.steps.put_words.Given as goal
 
 abbrev pub invariant-loop-i : goal.invariant-loop-i
 invariant-loop-i l =
-    (l.i ≤ length l.words)
-    × Left l.initial.out 0 (header_slots (unpacked word_length l.words)) l.out (word_length * l.i) (header_slots (unpacked word_length (drop l.i l.words)))
-
-abbrev pub decreases-loop-i : goal.decreases-loop-i
-decreases-loop-i l = length l.words - l.i
+    Left l.initial.out 0 (header_slots (unpacked word_length l.words)) l.out (word_length * l.i) (header_slots (unpacked word_length (drop l.i l.words)))
