@@ -10,8 +10,7 @@ use Rattle.bits.specs.Checks.{◌or_else◌, passed}
 use Rattle.bits.specs.Legal.{all_bits}
 use Rattle.bits.proofs.Passed.{passes, when_passed}
 use Rattle.bits.proofs.Table.{left-true, right_true}
-use Rattle.trellis.specs.declared.Ran.{Ran}
-use Rattle.trellis.specs.Run.{run_checks, run_number, ran, run_output}
+use Rattle.trellis.specs.Run.{Ran, run_checks, run_number, ran, run_output}
 use Rattle.trellis.specs.Trellis.{state_number, state_of, is_state, run, ends}
 
 pub run-passed : (s : ℕ) (bits : List ℕ) (room : ℕ) → run_number s bits room ≡ passed → (s ≤ 3) × (all_bits bits ≡ true) × (2 * length bits ≤ room)

@@ -10,8 +10,7 @@ use lib.Seq.{take_at, drop_at, drop-drop}
 use Rattle.bits.specs.Checks.{passed}
 use Rattle.bits.proofs.Cases.{by_cases}
 use Rattle.bits.proofs.Legal.{legal-both}
-use Rattle.trellis.specs.declared.Ran.{Ran}
-use Rattle.trellis.specs.Run.{run_number, ran, run_output}
+use Rattle.trellis.specs.Run.{Ran, run_number, ran, run_output}
 use Rattle.trellis.specs.Trellis.{State, state_number, state_of, run, ends}
 use Rattle.trellis.proofs.Checked.{run-passed, ran-passed, output-passed}
 use Rattle.trellis.proofs.Runs.{ends-append, run-append, run_length, end_state_lem, end_back}

@@ -1,9 +1,10 @@
 -- The convolutional code of both trellises (4.2; 6, equations 6-1 to 6-4).
-use Rattle.std.specs.Prelude.{Bool, ◌&&◌, List, [], ◌∷◌, ◌++◌, ℕ, ◌+◌, ◌*◌, ◌/◌, ◌%◌, leb, if◌then◌else◌}
-use Rattle.bits.specs.Checks.{passed, bad_element}
+use Rattle.std.specs.Prelude.{Bool, ◌&&◌, List, [], ◌∷◌, ◌++◌, ℕ, ◌+◌, ◌*◌, ◌/◌, ◌%◌, leb, if◌then◌else◌, Result, Ok, Err}
+use Rattle.bits.specs.Checks.{check_number, passed, bad_element}
+use Rattle.bits.specs.declared.checks.Refusal.{Refusal}
 use Rattle.bits.specs.Sum.{◌⊕◌}
-use Rattle.trellis.specs.declared.Stepped.{Stepped}
-use Rattle.trellis.specs.declared.Termination.{Termination}
+use Rattle.trellis.specs.declared.state.Step.{Step}
+use Rattle.trellis.specs.declared.state.Termination.{Termination}
 
 -- the state x of equation 6-2, x.0 and x.1 its two bits
 abbrev pub State : Type 0
@@ -35,8 +36,23 @@ state_of s = (s / 2, s % 2)
 abbrev pub is_state : ℕ → Bool
 is_state s = leb s 3
 
+-- an answer, as document 01 numbers it: the number of the check, the two output bits and the state that follows. A refusal has 0 in every other
+-- field
+pub record Stepped : Type 0 where
+  pub number : ℕ
+  pub systematic : ℕ
+  pub parity : ℕ
+  pub state : ℕ
+
+abbrev pub step_refused : ℕ → Stepped
+step_refused number = record { number = number; systematic = 0; parity = 0; state = 0 }
+
 abbrev pub refused : Stepped
-refused = record { number = bad_element; systematic = 0; parity = 0; state = 0 }
+refused = step_refused bad_element
+
+abbrev pub step_answer : Result Step Refusal → Stepped
+step_answer (Ok s) = record { number = passed; systematic = s.systematic; parity = s.parity; state = s.state }
+step_answer (Err refusal) = step_refused (check_number refusal)
 
 abbrev pub stepped : ℕ → ℕ → Stepped
 stepped s u =

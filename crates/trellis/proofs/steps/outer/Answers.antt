@@ -1,29 +1,37 @@
-use Prim.Native.Nat.{◌+◌, ◌<◌}
-use native.Mathlib.Omega.{arith}
-use lib.ListN.{length}
-use Rattle.bits.proofs.Fill.{left_as, left_store_three, left_end}
-use Rattle.trellis.proofs.Outer.{outer-length, even-below, outer-turn, outer-done}
-use Rattle.trellis.proofs.steps.outer.Goals.{At-loop-i}
+-- A turn stores the two bits of its pair and the parity between them.
+use Rattle.std.proofs.Common.{◌≡◌, ◌*◌, ◌+◌, ◌<◌, ◌≤◌, length, arith}
+use lib.ListN.{length-set}
+use Rattle.bits.proofs.Fill.{left_as, left-room_three, left_store_three, left_end}
+use Rattle.trellis.specs.Trellis.{outer}
+use Rattle.trellis.proofs.Outer.{outer-turn, outer-done}
+use Rattle.trellis.proofs.steps.outer.Goals.{In-loop-i}
 use Rattle.trellis.proofs.steps.outer.Goals as goal
 
 -- what three more stores need
-room : (l : At-loop-i) → l.loop-i.n + 2 < length l.loop-i.work
-room l =
-    omega (arith, l.loop-i.invariant.3.same, outer-length l.args.block.now l.requires.block_len, l.requires.block_in_bounds)
+room : (t : In-loop-i) → 3 * t.loop-i.i + 2 < length t.loop-i.work
+room t =
+    left-room_three {ws = outer t.args.block.now} (omega (arith, t.requires.block_in_bounds))
+    (left_as (outer-turn t.args.block.now t.as_chunks.ensures.front t.loop-i.state t.loop-i.i (omega (arith, t.as_chunks.ensures.front_len))) t.loop-i.invariant)
+
+pub bounds-work-i : goal.bounds-work-i
+bounds-work-i c = omega (arith, room (goal.at.bounds-work-i c).In-loop-i)
+
+pub bounds-work-i-in-loop-i : goal.bounds-work-i-in-loop-i
+bounds-work-i-in-loop-i c = simp length-set (omega (arith, room (goal.at.bounds-work-i-in-loop-i c).In-loop-i))
+
+pub bounds-work-i-in-loop-i-2 : goal.bounds-work-i-in-loop-i-2
+bounds-work-i-in-loop-i-2 c = simp length-set (room (goal.at.bounds-work-i-in-loop-i-2 c).In-loop-i)
 
 pub loop-i-preserved : goal.loop-i-preserved
 loop-i-preserved c =
-    let b = c.args.block.now in
-    let h = even-below _ _ c.loop-i.invariant.1 c.requires.block_len c.loop-i-test.true in (
-      omega arith,
-      omega (arith, c.loop-i.invariant.1),
-      omega (arith, c.loop-i.invariant.2),
-      left_store_three
-          (left_as (outer-turn b (c.loop-i.x0, c.loop-i.x1) c.loop-i.i h c.next-y.ensures c.parity.ensures c.next-x1.ensures) c.loop-i.invariant.3),
-    )
+    let past : 3 * (c.loop-i.i + 1) ≡ 3 * c.loop-i.i + 3 = omega arith in
+    rw (past, c.parity.ensures, c.next-state.ensures, c.next.ensures)
+    (left_store_three (left_as (outer-turn c.args.block.now c.as_chunks.ensures.front c.loop-i.state c.loop-i.i (omega (arith, c.as_chunks.ensures.front_len))) c.loop-i.invariant))
 
 pub returns : goal.returns
 returns c =
     let b = c.args.block.now in
-    left_end c.requires.block_in_bounds
-    (left_store_three (left_as (outer-done b (c.loop-i.x0, c.loop-i.x1) c.loop-i.i c.loop-i-test.false c.terminate-t.ensures) c.loop-i.invariant.3))
+    let last : length c.as_chunks.result.0.now ≡ c.loop-i.i = omega arith in
+    let all : length b ≤ 2 * c.loop-i.i = omega (arith, c.as_chunks.ensures.front_len, c.requires.block_len) in
+    rw last (left_end c.requires.block_in_bounds
+    (left_store_three (left_as (outer-done b c.loop-i.state (2 * c.loop-i.i) all c.terminate-end.ensures) c.loop-i.invariant)))
