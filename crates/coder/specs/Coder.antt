@@ -6,13 +6,12 @@ use Rattle.puncture.specs.Puncture.{counted}
 use Rattle.coder.specs.declared.steps.Coder.{Coder}
 
 abbrev pub state_in : Coder → State
-state_in c = (c.x0, c.x1)
+state_in c = c.state
 
 -- a turn on the bit u, whose mark is 1 where the upper register keeps it: the coder and the output
 abbrev pub turned : ℕ → ℕ → ℕ → ℕ → Coder → Coder
 turned I Δ mark u c = record {
-  x0 = c.x1;
-  x1 = (next (state_in c) u).1;
+  state = next (state_in c) u;
   upper = if eqb mark 1 then c.upper + 1 else c.upper;
   lower = if (counted I Δ c.counter).kept then c.lower + 1 else c.lower;
   counter = (counted I Δ c.counter).counter;
