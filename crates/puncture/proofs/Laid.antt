@@ -1,57 +1,76 @@
--- The pattern laid out over three periods: the places below a number have their marks, in each of them.
+-- The pattern laid out over three periods: three copies of it, one behind the other.
 use mathlib.Core.Path.{◌≡◌, sym, ap, ◌∙◌}
-use mathlib.Core.List.{List}
+use mathlib.Core.List.{List, [], ◌++◌, append-nil, append_assoc}
 use Prim.Native.Nat.{ℕ, ◌+◌, ◌*◌, ◌-◌, ◌%◌, ◌≤◌, ◌<◌}
-use native.Mathlib.Nat.{mod-eq_of_lt, mod-eq-sub-mod}
 use native.Mathlib.Omega.{arith}
 use borrow.Author.Tests.{ltb-true, ltb-false}
+use borrow.Rule.Slice.PartMut.{put_mid}
 use lib.Dec.{eqb, ltb}
-use lib.ListN.{length, get_or, set, length-set}
+use lib.ListN.{length, get_or, drop, length-append, length-drop, get_or-append, drop_of_length-le}
+use lib.Seq.{take_at, drop_at, get_or-append-add}
 use Rattle.bits.proofs.Cases.{by_cases}
-use Rattle.bits.proofs.Lists.{entry_set}
 use Rattle.puncture.specs.Puncture.{period, pattern, LaidOut, survives}
-
-module _ (pat : List ℕ) where
-  abbrev pub Laid : List ℕ → ℕ → Type 0
-  Laid out i = (k : ℕ) → k < i → (get_or out k 0 ≡ get_or pat k 0) × (get_or out (k + period) 0 ≡ get_or pat k 0) × (get_or out (k + 2 * period) 0 ≡ get_or pat k 0)
-
-  pub laid_next : (out : List ℕ) (i m : ℕ) → length out ≡ 3 * period → i < period → m ≡ get_or pat i 0 → Laid out i
-      → Laid (set (set (set out i m) (i + period) m) (i + 2 * period) m) (i + 1)
-  laid_next out i m long h is laid k l =
-      let one = set out i m in
-      let two = set one (i + period) m in
-      let room : length one ≡ 3 * period = length-set out i m ∙ long in
-      let here : k ≡ i → m ≡ get_or pat k 0 = λ e. is ∙ ap (λ (n : ℕ). get_or pat n 0) (sym e) in (
-        entry_set two (i + 2 * period) m k _ (omega (arith, length-set one (i + period) m)) (λ e. absurd (omega arith))
-            (λ a. entry_set one (i + period) m k _ (omega arith) (λ e. absurd (omega arith)) (λ b. entry_set out i m k _ (omega arith) here (λ c. (laid k (omega arith)).0))),
-        entry_set two (i + 2 * period) m (k + period) _ (omega (arith, length-set one (i + period) m)) (λ e. absurd (omega arith))
-            (λ a. entry_set one (i + period) m (k + period) _ (omega arith) (λ e. here (omega arith))
-            (λ b. entry_set out i m (k + period) _ (omega arith) (λ e. absurd (omega arith)) (λ c. (laid k (omega arith)).1))),
-        entry_set two (i + 2 * period) m (k + 2 * period) _ (omega (arith, length-set one (i + period) m)) (λ e. here (omega arith))
-            (λ a. entry_set one (i + period) m (k + 2 * period) _ (omega arith) (λ e. absurd (omega arith))
-            (λ b. entry_set out i m (k + 2 * period) _ (omega arith) (λ e. absurd (omega arith)) (λ c. (laid k (omega arith)).2))),
-      )
+use Rattle.puncture.proofs.Zeroed.{pattern-length}
 
 -- a number of three periods is one of a period behind none, one or two
-pub laid_end : (S : ℕ) (out : List ℕ) → length out ≡ 3 * period → Laid (pattern S) out period → LaidOut S out
-laid_end S out long laid = record {
-  long = long;
-  entry = λ j h. by_cases (ltb j period)
-      (λ t. let l : j < period = ltb-true j period t in rw (mod-eq_of_lt l) (laid j l).0)
+module _ (pat : List ℕ) (long : length pat ≡ period) where
+  behind : (rest : List ℕ) (j k : ℕ) → k + period ≡ j → get_or (pat ++ rest) j 0 ≡ get_or rest k 0
+  behind rest j k e =
+      let n : j ≡ length pat + k = omega arith in
+      rw n (get_or-append-add pat rest k 0)
+
+  thrice-entry : (j : ℕ) → j < 3 * period → get_or (pat ++ (pat ++ pat)) j 0 ≡ get_or pat (j % period) 0
+  thrice-entry j h =
+      by_cases (ltb j period)
+      (λ t. let l : j < period = ltb-true j period t in
+      let r : j % period ≡ j = omega arith in
+      rw r (get_or-append pat (pat ++ pat) 0 j (omega arith)))
       (λ f. let l : period ≤ j = ltb-false j period f in
       by_cases (ltb j (2 * period))
-      (λ t. let k : j - period < period = omega (arith, ltb-true j (2 * period) t) in
-      rw (mod-eq-sub-mod l, mod-eq_of_lt k) (there j (j - period) (omega arith) ∙ (laid (j - period) k).1))
-      (λ g. let k : j - 2 * period < period = omega arith in
-      let e : j % period ≡ j - 2 * period = omega (arith, ltb-false j (2 * period) g) in
-      rw e (twice j (j - 2 * period) (omega (arith, ltb-false j (2 * period) g)) ∙ (laid (j - 2 * period) k).2)));
-}
-  where
-    there : (j k : ℕ) → k + period ≡ j → get_or out j 0 ≡ get_or out (k + period) 0
-    there j k e = ap (λ (n : ℕ). get_or out n 0) (sym e)
+      (λ t. let m : j < 2 * period = ltb-true j (2 * period) t in
+      let r : j % period ≡ j - period = omega arith in
+      rw r (behind (pat ++ pat) j (j - period) (omega arith) ∙ get_or-append pat pat 0 (j - period) (omega arith)))
+      (λ g. let m : 2 * period ≤ j = ltb-false j (2 * period) g in
+      let r : j % period ≡ j - 2 * period = omega arith in
+      rw r (behind (pat ++ pat) j (j - period) (omega arith) ∙ behind pat (j - period) (j - 2 * period) (omega arith))))
 
-    twice : (j k : ℕ) → k + 2 * period ≡ j → get_or out j 0 ≡ get_or out (k + 2 * period) 0
-    twice j k e = ap (λ (n : ℕ). get_or out n 0) (sym e)
+thrice : (S : ℕ) → LaidOut S (pattern S ++ (pattern S ++ pattern S))
+thrice S = record {
+  long = omega (arith, length-append (pattern S) (pattern S ++ pattern S), length-append (pattern S) (pattern S), pattern-length S);
+  entry = thrice-entry (pattern S) (pattern-length S);
+}
+
+-- as the code lays it out: one copy behind the other, from the front
+module _ (S : ℕ) (out pat one two : List ℕ) (long : length out ≡ 3 * period) (is : pat ≡ pattern S) (first : one ≡ pat) (second : two ≡ pat) where
+  abbrev p : List ℕ
+  p = pattern S
+
+  abbrev rest : List ℕ
+  rest = drop period (drop period out)
+
+  p-length : length p ≡ period
+  p-length = pattern-length S
+
+  two_copies : put_mid period period (one ++ drop period out) two ≡ (p ++ p) ++ rest
+  two_copies =
+      rw (first, second, is, take_at p (drop period out) period p-length, drop_at p (drop period out) period p-length)
+      (sym (append_assoc p p rest))
+
+  twice_length : length (p ++ p) ≡ 2 * period
+  twice_length = omega (arith, length-append p p, p-length)
+
+  rest-length : length rest ≡ period
+  rest-length = omega (arith, length-drop period (drop period out), length-drop period out, long)
+
+  pub third-fits : 3 * period ≤ length (put_mid period period (one ++ drop period out) two)
+  third-fits = rw two_copies (omega (arith, length-append (p ++ p) rest, twice_length, rest-length))
+
+  pub laid_out_is : (three : List ℕ) → three ≡ pat → LaidOut S (put_mid (2 * period) period (put_mid period period (one ++ drop period out) two) three)
+  laid_out_is three third =
+      let at_most : length rest ≤ period = omega (arith, rest-length) in
+      let none : drop period rest ≡ [] = drop_of_length-le rest at_most in
+      rw (two_copies, third, is, take_at (p ++ p) rest (2 * period) twice_length, drop_at (p ++ p) rest (2 * period) twice_length, none, append-nil p, append_assoc p p p)
+      (thrice S)
 
 -- any number below three periods that leaves what p leaves has p's mark
 pub laid_survives : (S : ℕ) (l : List ℕ) → LaidOut S l → (r p : ℕ) → r < 3 * period → r % period ≡ p % period → eqb (get_or l r 0) 1 ≡ survives S p

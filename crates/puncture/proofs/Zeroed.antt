@@ -1,4 +1,4 @@
--- The pattern: a turn of the loop that writes it, and that for S_sur from 200 to 300 it has S_sur ones among its 300 bits.
+-- The pattern: that for S_sur from 200 to 300 it has S_sur ones among its 300 bits.
 use mathlib.Core.Path.{◌≡◌, refl, sym, ◌∙◌}
 use mathlib.Core.Bool.{true, not}
 use mathlib.Core.List.{List, [], ◌∷◌}
@@ -6,17 +6,12 @@ use Prim.Native.Nat.{ℕ, zero, suc, ◌+◌, ◌-◌, ◌≤◌, ◌<◌}
 use native.Mathlib.Omega.{arith}
 use borrow.Author.Tests.{eqb-false, not-true}
 use lib.Dec.{eqb}
-use lib.ListN.{length, get_or, drop, take, set, replicate, length-set, length-replicate, get_or-replicate}
+use lib.ListN.{length, get_or, take, set, replicate, length-set, length-replicate, get_or-replicate}
 use lib.Seq.{get_or-set_other, get_or-take, length-take-le}
-use Rattle.bits.proofs.Lists.{drop-next}
 use Rattle.bits.proofs.Table.{every, every-at, left-true, right_true}
 use Rattle.puncture.specs.Puncture.{period, most_punctured, zeroed, pattern}
 use Rattle.puncture.specs.Table42.{positions}
 use Rattle.puncture.proofs.Positions.{absent, distinct, positions-length, position-low, positions-distinct}
-
-pub zeroed-next : (out positions : List ℕ) (i : ℕ) → i < length positions
-    → zeroed out (drop i positions) ≡ zeroed (set out (get_or positions i 0) 0) (drop (i + 1) positions)
-zeroed-next out positions i h = rw (drop-next positions i h)
 
 pub zeroed-length : (out positions : List ℕ) → length (zeroed out positions) ≡ length out
 zeroed-length out [] = refl

@@ -32,14 +32,9 @@ pub fn laid_out(survivors: usize) -> [u8; LAID_OUT]
 {
     let period = pattern(survivors);
     let mut out = [0u8; LAID_OUT];
-    let mut i = 0;
-    while i < PERIOD {
-        let mark = period[i];
-        out[i] = mark;
-        out[i + PERIOD] = mark;
-        out[i + 2 * PERIOD] = mark;
-        i += 1;
-    }
+    out[..PERIOD].copy_from_slice(&period);
+    out[PERIOD..2 * PERIOD].copy_from_slice(&period);
+    out[2 * PERIOD..].copy_from_slice(&period);
     out
 }
 
@@ -47,13 +42,7 @@ pub fn laid_out(survivors: usize) -> [u8; LAID_OUT]
 fn zeros(survivors: usize) -> usize
     ensures { result ≡ min (period - survivors) most_punctured }
 {
-    if PERIOD <= survivors {
-        return 0;
-    }
-    if survivors <= PERIOD - MOST_PUNCTURED {
-        return MOST_PUNCTURED;
-    }
-    PERIOD - survivors
+    PERIOD.saturating_sub(survivors).min(MOST_PUNCTURED)
 }
 
 // Writes 0 at each of the positions.
@@ -61,10 +50,7 @@ fn zero_at(positions: &[usize], out: &mut [u8])
     requires { (k : ℕ) → k < length positions.now → get_or positions.now k 0 < length out.old }
     ensures { out.new ≡ zeroed out.old positions.now }
 {
-    let mut i = 0;
-    while i < positions.len() {
-        let p = positions[i];
+    for &p in positions {
         out[p] = 0;
-        i += 1;
     }
 }

@@ -15,13 +15,14 @@ pub fn rate_match(total: usize, delta: usize, counter: usize) -> Matching
     ensures { result ≡ counted total delta counter }
 {
     if delta <= counter {
-        return Matching {
+        Matching {
             kept: true,
             counter: counter - delta,
-        };
-    }
-    Matching {
-        kept: false,
-        counter: counter + (total - delta),
+        }
+    } else {
+        Matching {
+            kept: false,
+            counter: counter + (total - delta),
+        }
     }
 }

@@ -1,13 +1,8 @@
--- At i, writing 0 at the positions from i on gives what writing 0 at all of them gives at the start.
+-- Writing 0 at the positions that are left gives what writing 0 at all of them gives at the start.
 use mathlib.Core.Path.{◌≡◌}
-use Prim.Native.Nat.{◌-◌, ◌≤◌}
-use lib.ListN.{length, drop}
+use lib.ListN.{drop}
 use Rattle.puncture.specs.Puncture.{zeroed}
 use Rattle.puncture.proofs.zero_at.Given as goal
 
-abbrev pub invariant-loop-i : goal.invariant-loop-i
-invariant-loop-i l =
-    (l.i ≤ length l.positions) × (length l.out ≡ length l.initial.out) × (zeroed l.out (drop l.i l.positions) ≡ zeroed l.initial.out l.positions)
-
-abbrev pub decreases-loop-i : goal.decreases-loop-i
-decreases-loop-i l = length l.positions - l.i
+abbrev pub invariant-loop-p : goal.invariant-loop-p
+invariant-loop-p l = zeroed l.out (drop l.p-index l.positions) ≡ zeroed l.initial.out l.positions
