@@ -10,10 +10,10 @@ use lib.ListN.{length, get_or, drop, set, length-append, drop_of_length-le}
 use lib.Seq.{sets, length-sets, set_comm}
 use Rattle.std.specs.Prelude.{if◌then◌else◌}
 use Rattle.bits.proofs.Cases.{by_cases}
-use Rattle.bits.proofs.Fill.{Left, left_as, left-room, left_store, left_stores, sets-append, sets-front}
+use Rattle.bits.proofs.Fill.{Left, left_as, left_store, left_stores, sets-append, sets-front}
 use Rattle.bits.proofs.Lists.{drop-next}
 use Rattle.ascii.specs.Text.{comma, line_feed, digit, decimal, separator, line, at_front}
-use Rattle.ascii.proofs.Decimal.{decimal-one, decimal-more, length_more}
+use Rattle.ascii.proofs.Decimal.{last_digits, last_digits-length}
 
 -- the last may be stored first
 sets_last : (out : List ℕ) (at : ℕ) (xs : List ℕ) (y : ℕ) → sets (set out (at + length xs) y) at xs ≡ sets out at (xs ++ (y ∷ []))
@@ -22,18 +22,11 @@ sets_last out at (x ∷ xs) y =
     let s : at + suc (length xs) ≡ suc at + length xs = omega arith in
     rw (s, set_comm out (suc at + length xs) at y x (λ e. omega arith)) (sets_last (set out at x) (suc at) xs y)
 
--- a number's digits, of which the last is stored at i first
-module _ (out : List ℕ) (at i n d : ℕ) (last : at + length (decimal n) ≡ i + 1) where
-  pub decimal-last : 10 ≤ n → d ≡ digit (n % 10) → sets (set out i d) at (decimal (n / 10)) ≡ sets out at (decimal n)
-  decimal-last h e =
-      let here : i ≡ at + length (decimal (n / 10)) = omega (arith, length_more n h) in
-      rw (here, e, decimal-more n h) (sets_last out at (decimal (n / 10)) (digit (n % 10)))
-
-  pub decimal-first : n < 10 → d ≡ digit n → set out i d ≡ sets out at (decimal n)
-  decimal-first h e =
-      let one = decimal-one n h in
-      let here : i ≡ at = omega (arith, ap length one) in
-      rw (here, e, one)
+-- the last of k + 1 digits is stored at i
+pub decimal-turn : (out : List ℕ) (at i n k k' : ℕ) → i ≡ at + k → k' ≡ suc k → sets (set out i (digit (n % 10))) at (last_digits k (n / 10)) ≡ sets out at (last_digits k' n)
+decimal-turn out at i n k k' here e =
+    let place : i ≡ at + length (last_digits k (n / 10)) = omega (arith, last_digits-length k (n / 10)) in
+    rw (place, e) (sets_last out at (last_digits k (n / 10)) (digit (n % 10)))
 
 -- a line of numbers, of which those from i on are left to put
 line-next : (ns : List ℕ) (i : ℕ) → i < length ns → line (drop i ns) ≡ decimal (get_or ns i 0) ++ separator (drop (i + 1) ns) ∷ line (drop (i + 1) ns)
@@ -48,9 +41,6 @@ separator-is ns i =
 module _ (ns : List ℕ) (i : ℕ) (h : i < length ns) {out₀ ws out : List ℕ} {at end : ℕ} (l : Left out₀ at ws out end (line (drop i ns))) where
   number-left : Left out₀ at ws (sets out end (decimal (get_or ns i 0))) (end + length (decimal (get_or ns i 0))) (separator (drop (i + 1) ns) ∷ line (drop (i + 1) ns))
   number-left = left_stores (decimal (get_or ns i 0)) _ (left_as (line-next ns i h) l)
-
-  pub number-room : at + length ws ≤ length out₀ → end + length (decimal (get_or ns i 0)) < length out
-  number-room room = omega (arith, left-room room number-left, length-sets out end (decimal (get_or ns i 0)))
 
   pub line-turn : {out' : List ℕ} {end' b : ℕ} → out' ≡ sets out end (decimal (get_or ns i 0)) → end' ≡ end + length (decimal (get_or ns i 0)) → b ≡ (if ltb (i + 1) (length ns) then comma else line_feed)
       → Left out₀ at ws (set out' end' b) (end' + 1) (line (drop (i + 1) ns))

@@ -1,7 +1,7 @@
 // Text in ASCII, put into a buffer. Opened to the layers above alone.
-ghost use Rattle.std.specs.Prelude.{◌≡◌, ◌+◌, ◌≤◌, ◌<◌, length, if◌then◌else◌};
+ghost use Rattle.std.specs.Prelude.{◌≡◌, ◌+◌, ◌≤◌, length};
 ghost use Rattle.std.proofs.lemmas.List.Edits.{sets};
-ghost use Rattle.ascii.specs.Text.{comma, decimal, digit as digit_of, line, line_feed};
+ghost use Rattle.ascii.specs.Text.{decimal, line};
 
 pub const COMMA: u8 = b',';
 
@@ -9,16 +9,17 @@ pub const LINE_FEED: u8 = b'\n';
 
 pub const ZERO: u8 = b'0';
 
-pub const NINE: u8 = b'9';
-
 // Words, from the place at on; answers the place behind them.
+// Buffer and place stay two parameters: a struct that lends the buffer says no less in its contracts, and its callers have to take it apart.
+#[tactic(auto, using(bits::proofs::Parts::sets_of_part))]
 pub fn put(words: &[u8], out: &mut [u8], at: usize) -> usize
     requires { at + length words.now ≤ length out.old }
     ensures value { result ≡ at + length words.now }
     ensures out_after { out.new ≡ sets out.old at words.now }
 {
-    bits::steps::put(words, out, at);
-    at + words.len()
+    let end = at + words.len();
+    out[at..end].copy_from_slice(words);
+    end
 }
 
 // Numbers with a comma behind each and a line feed behind the last, from the place at on; answers the place behind them.
@@ -28,38 +29,31 @@ pub fn put_line(numbers: &[u64], out: &mut [u8], at: usize) -> usize
     ensures out_after { out.new ≡ sets out.old at (line numbers.now) }
 {
     let mut end = at;
-    let mut i = 0;
-    while i < numbers.len() {
-        end = put_decimal(numbers[i], out, end);
-        i += 1;
-        out[end] = separator(i < numbers.len());
+    for (i, &n) in numbers.iter().enumerate() {
+        end = put_decimal(n, out, end);
+        out[end] = if i + 1 < numbers.len() {
+            COMMA
+        } else {
+            LINE_FEED
+        };
         end += 1;
     }
     end
 }
 
-// The byte behind a number, if there are more and if there are none.
-fn separator(more: bool) -> u8
-    ensures { result ≡ (if more then comma else line_feed) }
-{
-    if more { COMMA } else { LINE_FEED }
-}
-
 // A number in decimal, from the place at on; answers the place behind it.
+// By hand: what std promises of `write!` into a slice leaves open whether it succeeds, also where there is room.
 fn put_decimal(n: u64, out: &mut [u8], at: usize) -> usize
     requires { at + length (decimal n) ≤ length out.old }
     ensures value { result ≡ at + length (decimal n) }
     ensures out_after { out.new ≡ sets out.old at (decimal n) }
 {
     let end = at + digits(n);
-    let mut i = end - 1;
     let mut rest = n;
-    while 10 <= rest {
-        out[i] = digit(rest % 10);
+    for i in (at..end).rev() {
+        out[i] = ZERO + (rest % 10) as u8;
         rest /= 10;
-        i -= 1;
     }
-    out[i] = digit(rest);
     end
 }
 
@@ -67,18 +61,5 @@ fn put_decimal(n: u64, out: &mut [u8], at: usize) -> usize
 fn digits(n: u64) -> usize
     ensures { result ≡ length (decimal n) }
 {
-    let mut count = 1;
-    let mut rest = n;
-    while 10 <= rest {
-        rest /= 10;
-        count += 1;
-    }
-    count
-}
-
-fn digit(d: u64) -> u8
-    requires { d < 10 }
-    ensures { result ≡ digit_of d }
-{
-    ZERO + d as u8
+    n.checked_ilog10().unwrap_or(0) as usize + 1
 }

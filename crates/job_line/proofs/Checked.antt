@@ -6,12 +6,17 @@ use Prim.Native.Nat.{ℕ, ◌<◌}
 use native.Mathlib.Omega.{arith}
 use borrow.Author.Tests.{ltb-true, eqb-true, eqb-false, eq-eqb, ne_eqb}
 use lib.Dec.{eqb, lit<}
-use Rattle.bits.specs.Checks.{◌or_else◌, passed, bad_line}
+use Rattle.std.specs.Prelude.{Option, Some, None, Result, Err}
+use Rattle.std.specs.Option.{ok_or}
+use Rattle.bits.specs.Checks.{◌or_else◌, check_number, passed, bad_line}
+use Rattle.bits.specs.declared.checks.Refusal.{Refusal}
+use Rattle.bits.specs.declared.checks.Refusal.TheVariants as refusal
 use Rattle.bits.proofs.Cases.{by_cases}
 use Rattle.bits.proofs.Passed.{passes}
+use Rattle.bits.proofs.Refusals.{not_passed}
 use Rattle.acm.specs.Formats.{is_format}
 use Rattle.acm.proofs.Laws.{format-low}
-use Rattle.job_line.specs.declared.line.Line.TheVariants.{Numbers, Malformed}
+use Rattle.job_line.specs.declared.Job.{Job}
 use Rattle.job_line.specs.Line.{format_in, pattern_in, is_line, line_of}
 use Rattle.job_line.specs.Job.{patterns, numbers_number, job_checks, job_number, Answer, accepted, refused, asked}
 
@@ -27,43 +32,47 @@ job_passed text e =
     record { line = part 0 (lit< tt); format = part 1 (lit< tt); pattern = ltb-true _ _ (part 2 (lit< tt)) }
 
 -- what the reader's answer says
-malformed-number : (text : List ℕ) → Malformed ≡ line_of text → job_number text ≡ bad_line
+malformed-number : (text : List ℕ) → None ≡ line_of text → job_number text ≡ bad_line
 unfolding job_number
 malformed-number text e =
-    by_cases (is_line text)
-    (λ t. let e' : Malformed ≡ Numbers (format_in text) (pattern_in text) = rw t at e in let z : ◌≡◌ {A = ℕ} 0 1 = cc in absurd (omega arith))
+    by_cases
+    (is_line text)
+    (λ t. let e' : None ≡ Some (record { format = format_in text; pattern = pattern_in text }) = rw t at e in cc)
     (λ f. rw f)
 
-record Read (text : List ℕ) (f p : ℕ) : Type 0 where
-  format : f ≡ format_in text
-  pattern : p ≡ pattern_in text
-  number : job_number text ≡ numbers_number f p
+record Read (text : List ℕ) (job : Job) : Type 0 where
+  format : job.format ≡ format_in text
+  pattern : job.pattern ≡ pattern_in text
+  number : job_number text ≡ numbers_number job.format job.pattern
 
-numbers-read : (text : List ℕ) (f p : ℕ) → Numbers f p ≡ line_of text → Read text f p
+numbers-read : (text : List ℕ) (job : Job) → Some job ≡ line_of text → Read text job
 unfolding job_number numbers_number
-numbers-read text f p e =
+numbers-read text job e =
     by_cases (is_line text)
     (λ t.
-    let e' : Numbers f p ≡ Numbers (format_in text) (pattern_in text) = rw t at e in
-    let ef : f ≡ format_in text = cc in
-    let ep : p ≡ pattern_in text = cc in
+    let e' : Some job ≡ Some (record { format = format_in text; pattern = pattern_in text }) = rw t at e in
+    let ef : job.format ≡ format_in text = cc in
+    let ep : job.pattern ≡ pattern_in text = cc in
     record { format = ef; pattern = ep; number = rw (t, ef, ep) })
-    (λ n. let e' : Numbers f p ≡ Malformed = rw n at e in let z : ◌≡◌ {A = ℕ} 0 1 = cc in absurd (omega arith))
+    (λ n. let e' : Some job ≡ None = rw n at e in cc)
 
 -- the exits of parse
-pub line_refused : (text : List ℕ) → Malformed ≡ line_of text → refused bad_line ≡ asked text
-line_refused text e = rw (malformed-number text e)
+pub line_refused : (text : List ℕ) (read : Option Job) (r : Refusal) → read ≡ line_of text → read ≡ None → Err r ≡ ok_or read refusal.Line → refused (check_number r) ≡ asked text
+line_refused text read r e none refuses =
+    let e' : ◌≡◌ {A = Result Job Refusal} (Err r) (Err refusal.Line) = rw none at refuses in
+    let is : r ≡ refusal.Line = cc in
+    rw (is, malformed-number text (sym none ∙ e)) refl
 
-module _ (text : List ℕ) (f p n : ℕ) (e : Numbers f p ≡ line_of text) (is : n ≡ numbers_number f p) where
-  pub numbers-refused : (n ≡ passed → ⊥) → refused n ≡ asked text
-  numbers-refused no-pass =
-      let number : job_number text ≡ n = (numbers-read text f p e).number ∙ sym is in
-      rw (number, ne_eqb n passed no-pass)
+module _ (text : List ℕ) (job : Job) (e : Some job ≡ line_of text) where
+  pub numbers-refused : (r : Refusal) → check_number r ≡ numbers_number job.format job.pattern → refused (check_number r) ≡ asked text
+  numbers-refused r is =
+      let number : job_number text ≡ check_number r = (numbers-read text job e).number ∙ sym is in
+      rw (number, ne_eqb (check_number r) passed (not_passed r))
 
-  pub numbers-accepted : n ≡ passed → accepted f p ≡ asked text
+  pub numbers-accepted : passed ≡ numbers_number job.format job.pattern → accepted job.format job.pattern ≡ asked text
   numbers-accepted pass =
-      let r = numbers-read text f p e in
-      rw (eq-eqb (job_number text) passed (r.number ∙ sym is ∙ pass)) (ap₂ accepted r.format r.pattern)
+      let read = numbers-read text job e in
+      rw (eq-eqb (job_number text) passed (read.number ∙ sym pass)) (ap₂ accepted read.format read.pattern)
 
 -- what an answer says
 pub run-read : (text : List ℕ) (f p : ℕ) → accepted f p ≡ asked text → (job_number text ≡ passed) × (f ≡ format_in text) × (p ≡ pattern_in text)

@@ -11,7 +11,7 @@ use Rattle.bits.specs.Same.{same}
 use Rattle.bits.proofs.Cases.{by_cases}
 use Rattle.bits.proofs.Same.{same_self, same-equal}
 use Rattle.bits.proofs.Table.{left-true, right_true}
-use Rattle.job_line.specs.declared.line.Field.TheVariants.{Number, NoNumber}
+use Rattle.std.specs.Prelude.{Some, None}
 use Rattle.ascii.specs.Text.{zero_digit, nine_digit, digit, decimal}
 use Rattle.ascii.proofs.Decimal.{decimal-one, decimal_push, decimal-some, decimal-length}
 use Rattle.job_line.specs.Line.{field_digits, field_limit, is_digit, all_digits, value_behind, value, is_field, field_of}
@@ -128,21 +128,19 @@ spelled_field text spelled =
     (field_written text (value text) (field_low text spelled.short spelled.digits) (decimal_of text spelled)).0
 
 -- the two answers
-pub a_field : (text : List ℕ) → Spelled text → Number (value text) ≡ field_of text
+pub a_field : (text : List ℕ) → Spelled text → Some (value text) ≡ field_of text
 a_field text spelled = rw (spelled_field text spelled)
 
-pub no_field : (text : List ℕ) → (Spelled text → ⊥) → NoNumber ≡ field_of text
+pub no_field : (text : List ℕ) → (Spelled text → ⊥) → None ≡ field_of text
 no_field text n = by_cases (is_field text) (λ t. absurd (n (field_spelled text t))) (λ f. rw f)
 
 -- what they say
-pub number_read : (text : List ℕ) (n : ℕ) → Number n ≡ field_of text → (is_field text ≡ true) × (n ≡ value text)
+pub number_read : (text : List ℕ) (n : ℕ) → Some n ≡ field_of text → (is_field text ≡ true) × (n ≡ value text)
 number_read text n e =
     by_cases (is_field text)
-    (λ t. (t, let e' : Number n ≡ Number (value text) = rw t at e in cc))
-    (λ f. let e' : Number n ≡ NoNumber = rw f at e in let z : ◌≡◌ {A = ℕ} 0 1 = cc in absurd (omega arith))
+    (λ t. (t, let e' : Some n ≡ Some (value text) = rw t at e in cc))
+    (λ f. let e' : Some n ≡ None = rw f at e in cc)
 
-pub none_read : (text : List ℕ) → NoNumber ≡ field_of text → is_field text ≡ false
+pub none_read : (text : List ℕ) → None ≡ field_of text → is_field text ≡ false
 none_read text e =
-    by_cases (is_field text)
-    (λ t. let e' : NoNumber ≡ Number (value text) = rw t at e in let z : ◌≡◌ {A = ℕ} 0 1 = cc in absurd (omega arith))
-    (λ f. f)
+    by_cases (is_field text) (λ t. let e' : None ≡ Some (value text) = rw t at e in cc) (λ f. f)

@@ -4,25 +4,25 @@ use mathlib.Core.Path.{◌≡◌, refl, sym, ap, ap₂, ◌∙◌}
 use mathlib.Core.Bool.{true, false, ◌&&◌, false≢true}
 use mathlib.Core.List.{List, [], ◌∷◌, ◌++◌}
 use mathlib.Core.Logic.{◌↔◌}
-use Prim.Native.Nat.{ℕ, ◌+◌, ◌≤◌, ◌<◌}
+use Prim.Native.Nat.{ℕ, ◌+◌, ◌-◌, ◌≤◌, ◌<◌}
 use native.Mathlib.Numerals.{add-one}
 use native.Mathlib.Omega.{arith}
 use borrow.Author.Tests.{eq-eqb, ne_eqb, lt-ltb, ltb-true}
 use lib.Dec.{ltb}
-use lib.ListN.{length, take, length-append, drop_of_length-le}
-use lib.Seq.{split_at, take_at, drop-append-add}
+use lib.ListN.{length, take, drop, length-append, length-drop, drop_of_length-le}
+use lib.Seq.{split_at, take_at, take_all, drop-append-add}
+use Rattle.std.specs.Prelude.{Some, None, position, ◌==◌}
 use Rattle.bits.specs.Place.{place}
 use Rattle.bits.specs.Same.{same}
 use Rattle.bits.proofs.Same.{same_self, same-equal}
 use Rattle.bits.proofs.Cases.{by_cases}
 use Rattle.bits.proofs.Places.{place_is}
 use Rattle.bits.proofs.Table.{left-true, right_true}
-use Rattle.job_line.specs.declared.line.Field.TheVariants.{Number, NoNumber}
-use Rattle.job_line.specs.declared.line.Line.TheVariants.{Numbers, Malformed}
 use Rattle.ascii.specs.Text.{comma, line_feed, decimal, line}
 use Rattle.job_line.specs.Line.{WellFormed, field_limit, longest_line, is_digit, all_digits, value, before, behind, is_field, field_of, format_in, pattern_in, is_line, line_of}
 use Rattle.job_line.proofs.Digits.{decimal-digits, decimal-value}
 use Rattle.job_line.proofs.Fields.{decimal_spelled, field_written, field_read, number_read, none_read}
+use Rattle.job_line.proofs.Scans.{place_found, place-missing}
 
 -- where a byte stands behind digits
 module _ (b : ℕ) (other : is_digit b ≡ false) where
@@ -39,8 +39,8 @@ module _ (b : ℕ) (other : is_digit b ≡ false) where
   behind-at : (xs ys : List ℕ) → all_digits xs ≡ true → behind b (xs ++ b ∷ ys) ≡ ys
   behind-at xs ys t = rw (place_at xs ys t, drop-append-add xs (b ∷ ys) 1)
 
-place_found : (b : ℕ) (text : List ℕ) → place b text < length text → text ≡ before b text ++ b ∷ behind b text
-place_found b text h = split_at text (place b text) 0 h ∙ rw (place_is b text h, add-one)
+split_there : (b : ℕ) (text : List ℕ) → place b text < length text → text ≡ before b text ++ b ∷ behind b text
+split_there b text h = split_at text (place b text) 0 h ∙ rw (place_is b text h, add-one)
 
 -- what the reader tests
 pub record Parts (text : List ℕ) : Type 0 where
@@ -105,7 +105,7 @@ line_read text e =
 pub line_agrees : (text : List ℕ) → (is_line text ≡ true) ↔ WellFormed text
 line_agrees text = (line_read text, λ w. ap is_line w.written ∙ line-written w.format w.pattern w.format-low w.pattern-low)
 
-pub numbers_agree : (f p : ℕ) → f < field_limit → p < field_limit → line_of (line (f ∷ p ∷ [])) ≡ Numbers f p
+pub numbers_agree : (f p : ℕ) → f < field_limit → p < field_limit → line_of (line (f ∷ p ∷ [])) ≡ Some (record { format = f; pattern = p })
 numbers_agree f p hf hp = rw (line-written f p hf hp, format-written f p hf hp, pattern-written f p hf hp)
 
 pub line-short : (text : List ℕ) → is_line text ≡ true → length text ≤ longest_line
@@ -129,52 +129,71 @@ line_of-parts text parts =
     let ended : behind line_feed rest ≡ [] = drop_of_length-le rest {i = place line_feed rest + 1} (omega (arith, parts.feed_last)) in
     let (low, is) = field_read (before comma text) parts.format_field in
     let (low', is') = field_read (before line_feed rest) parts.pattern_field in
-    let tail : rest ≡ line (value (before line_feed rest) ∷ []) = place_found line_feed rest (omega (arith, parts.feed_last)) ∙ ap₂ (λ (a b : List ℕ). a ++ line_feed ∷ b) is' ended in
+    let tail : rest ≡ line (value (before line_feed rest) ∷ []) = split_there line_feed rest (omega (arith, parts.feed_last)) ∙ ap₂ (λ (a b : List ℕ). a ++ line_feed ∷ b) is' ended in
     (line_agrees text).1
     (record {
       format = value (before comma text);
       pattern = value (before line_feed rest);
       format-low = low;
       pattern-low = low';
-      written = place_found comma text parts.comma-inside ∙ ap₂ (λ (a b : List ℕ). a ++ comma ∷ b) is tail;
+      written = split_there comma text parts.comma-inside ∙ ap₂ (λ (a b : List ℕ). a ++ comma ∷ b) is tail;
     })
 
--- the exits of the reader: there is no comma; or the comma is at k, rest is behind it and has its line feed at j
-no_line : (text : List ℕ) → (Parts text → ⊥) → Malformed ≡ line_of text
+-- the exits of the reader: there is no comma; or the comma is at k, and the rest behind it has its line feed at j
+no_line : (text : List ℕ) → (Parts text → ⊥) → None ≡ line_of text
 no_line text n = by_cases (is_line text) (λ t. absurd (n (parts_of_line text t))) (λ f. rw f)
 
-pub no_comma : (text : List ℕ) → place comma text ≡ length text → Malformed ≡ line_of text
-no_comma text e = no_line text (λ p. omega (arith, p.comma-inside))
+pub no_comma : (text : List ℕ) → None ≡ position (λ b. b == comma) text → None ≡ line_of text
+no_comma text e = no_line text (λ p. omega (arith, p.comma-inside, place-missing comma text e))
 
-module _ (text rest : List ℕ) (k j : ℕ) (at-comma : k ≡ place comma text) (behind-comma : rest ≡ behind comma text) (at-feed : j ≡ place line_feed rest) where
+module _ (text : List ℕ) (k : ℕ) (found : Some k ≡ position (λ b. b == comma) text) where
+  abbrev at-comma : k ≡ place comma text
+  at-comma = (place_found comma text k found).0
+
+  abbrev rest : List ℕ
+  rest = take (length text - (k + 1)) (drop (k + 1) text)
+
+  rest-is : behind comma text ≡ rest
+  rest-is =
+      ap (λ (n : ℕ). drop (n + 1) text) (sym at-comma)
+      ∙ sym (take_all (length text - (k + 1)) (drop (k + 1) text) (simp length-drop (omega arith)))
+
   format_field : before comma text ≡ take k text
   format_field = ap (λ (n : ℕ). take n text) (sym at-comma)
 
-  pattern_field : before line_feed (behind comma text) ≡ take j rest
-  pattern_field = ap (before line_feed) (sym behind-comma) ∙ ap (λ (n : ℕ). take n rest) (sym at-feed)
+  pub no_feed : None ≡ position (λ b. b == line_feed) rest → None ≡ line_of text
+  no_feed e =
+      no_line text (λ p. omega (arith, rw rest-is at p.feed_last, place-missing line_feed rest e))
 
-  feed_place : place line_feed (behind comma text) ≡ j
-  feed_place = ap (place line_feed) (sym behind-comma) ∙ sym at-feed
+  module _ (j : ℕ) (ended : Some j ≡ position (λ b. b == line_feed) rest) where
+    abbrev at-feed : j ≡ place line_feed rest
+    at-feed = (place_found line_feed rest j ended).0
 
-  pub no_end : (j + 1 ≡ length rest → ⊥) → Malformed ≡ line_of text
-  no_end n = no_line text (λ p. n (rw (← feed_place, behind-comma) p.feed_last))
+    pattern_field : before line_feed (behind comma text) ≡ take j rest
+    pattern_field = ap (before line_feed) rest-is ∙ ap (λ (n : ℕ). take n rest) (sym at-feed)
 
-  pub no_format : NoNumber ≡ field_of (take k text) → Malformed ≡ line_of text
-  no_format e = no_line text (λ p. false≢true (sym (none_read _ e) ∙ ap is_field (sym format_field) ∙ p.format_field))
+    feed_place : place line_feed (behind comma text) ≡ j
+    feed_place = ap (place line_feed) rest-is ∙ sym at-feed
 
-  pub no_pattern : NoNumber ≡ field_of (take j rest) → Malformed ≡ line_of text
-  no_pattern e = no_line text (λ p. false≢true (sym (none_read _ e) ∙ ap is_field (sym pattern_field) ∙ p.pattern_field))
+    pub no_end : (j + 1 ≡ length rest → ⊥) → None ≡ line_of text
+    no_end n = no_line text (λ p. n (rw (← feed_place, ← rest-is) p.feed_last))
 
-  pub two_numbers : {f p : ℕ} → k < length text → j + 1 ≡ length rest → Number f ≡ field_of (take k text) → Number p ≡ field_of (take j rest)
-      → Numbers f p ≡ line_of text
-  unfolding format_in pattern_in
-  two_numbers {f} {p} inside last ef ep =
-      let (is, v) = number_read (take k text) f ef in
-      let (is', v') = number_read (take j rest) p ep in
-      let parts : Parts text = record {
-        comma-inside = omega (arith, at-comma);
-        feed_last = rw (feed_place, ← behind-comma) last;
-        format_field = rw format_field is;
-        pattern_field = rw pattern_field is';
-      } in
-      ap₂ Numbers (v ∙ ap value (sym format_field)) (v' ∙ ap value (sym pattern_field)) ∙ rw (line_of-parts text parts)
+    pub no_format : None ≡ field_of (take k text) → None ≡ line_of text
+    no_format e = no_line text (λ p. false≢true (sym (none_read _ e) ∙ ap is_field (sym format_field) ∙ p.format_field))
+
+    pub no_pattern : None ≡ field_of (take j rest) → None ≡ line_of text
+    no_pattern e = no_line text (λ p. false≢true (sym (none_read _ e) ∙ ap is_field (sym pattern_field) ∙ p.pattern_field))
+
+    pub two_numbers : {f p : ℕ} → j + 1 ≡ length rest → Some f ≡ field_of (take k text) → Some p ≡ field_of (take j rest)
+        → Some (record { format = f; pattern = p }) ≡ line_of text
+    unfolding format_in pattern_in
+    two_numbers {f} {p} last ef ep =
+        let (is, v) = number_read (take k text) f ef in
+        let (is', v') = number_read (take j rest) p ep in
+        let parts : Parts text = record {
+          comma-inside = omega (arith, (place_found comma text k found).1, at-comma);
+          feed_last = rw (feed_place, rest-is) last;
+          format_field = rw format_field is;
+          pattern_field = rw pattern_field is';
+        } in
+        ap₂ (λ (f p : ℕ). Some (record { format = f; pattern = p })) (v ∙ ap value (sym format_field)) (v' ∙ ap value (sym pattern_field)) ∙ rw (line_of-parts text parts)

@@ -1,9 +1,9 @@
 -- The job that a text asks for, or the number of the check that refuses it: 6, then 1, then 7.
-use Rattle.std.specs.Prelude.{List, [], ◌∷◌, ℕ, eqb, ltb, if◌then◌else◌}
-use Rattle.bits.specs.Checks.{Check, ◌or_else◌, first_failed, passed, bad_format, bad_line, bad_pattern}
+use Rattle.std.specs.Prelude.{List, [], ◌∷◌, ℕ, eqb, ltb, if◌then◌else◌, Result, Ok, Err}
+use Rattle.bits.specs.Checks.{Check, ◌or_else◌, first_failed, check_number, passed, bad_format, bad_line, bad_pattern}
+use Rattle.bits.specs.declared.checks.Refusal.{Refusal}
 use Rattle.acm.specs.Formats.{is_format}
 use Rattle.job_line.specs.declared.Job.{Job}
-use Rattle.job_line.specs.declared.Job.TheVariants.{Run, Refused}
 use Rattle.job_line.specs.Line.{is_line, format_in, pattern_in}
 
 -- the patterns 0, 1 and 2
@@ -38,9 +38,9 @@ accepted f p = record { number = passed; format = f; pattern = p }
 abbrev pub refused : ℕ → Answer
 refused number = record { number = number; format = 0; pattern = 0 }
 
-abbrev pub answer_of : Job → Answer
-answer_of (Run f p) = accepted f p
-answer_of (Refused number) = refused number
+abbrev pub answer_of : Result Job Refusal → Answer
+answer_of (Ok job) = accepted job.format job.pattern
+answer_of (Err refusal) = refused (check_number refusal)
 
 abbrev pub asked : List ℕ → Answer
 asked text =

@@ -1,12 +1,9 @@
 -- The job line (document 01): format, comma, pattern, line feed, end.
-use Rattle.std.specs.Prelude.{◌≡◌, Bool, true, ◌&&◌, List, [], ◌∷◌, map, ℕ, ◌+◌, ◌-◌, ◌*◌, ◌^◌, ◌<◌, leb, ltb, take, drop, if◌then◌else◌}
+use Rattle.std.specs.Prelude.{◌≡◌, Bool, true, ◌&&◌, List, [], ◌∷◌, map, ℕ, ◌+◌, ◌-◌, ◌*◌, ◌^◌, ◌<◌, leb, ltb, take, drop, if◌then◌else◌, Option, Some, None}
 use Rattle.bits.specs.Digits.{value_from}
 use Rattle.bits.specs.Place.{place}
 use Rattle.bits.specs.Same.{same}
-use Rattle.job_line.specs.declared.line.Field.{Field}
-use Rattle.job_line.specs.declared.line.Field.TheVariants.{Number, NoNumber}
-use Rattle.job_line.specs.declared.line.Line.{Line}
-use Rattle.job_line.specs.declared.line.Line.TheVariants.{Numbers, Malformed}
+use Rattle.job_line.specs.declared.Job.{Job}
 use Rattle.ascii.specs.Text.{comma, line_feed, zero_digit, nine_digit, decimal, line}
 
 -- a field has at most so many digits, and its number is below this one
@@ -53,8 +50,8 @@ behind b text = drop (place b text + 1) text
 unfoldable pub is_field : List ℕ → Bool
 is_field text = ltb (value text) field_limit && same text (decimal (value text))
 
-abbrev pub field_of : List ℕ → Field
-field_of text = if is_field text then Number (value text) else NoNumber
+abbrev pub field_of : List ℕ → Option ℕ
+field_of text = if is_field text then Some (value text) else None
 
 -- the two numbers of a text, if it is a line at all
 unfoldable pub format_in : List ℕ → ℕ
@@ -68,5 +65,5 @@ is_line text =
     ltb (format_in text) field_limit && ltb (pattern_in text) field_limit
     && same text (line (format_in text ∷ pattern_in text ∷ []))
 
-abbrev pub line_of : List ℕ → Line
-line_of text = if is_line text then Numbers (format_in text) (pattern_in text) else Malformed
+abbrev pub line_of : List ℕ → Option Job
+line_of text = if is_line text then Some (record { format = format_in text; pattern = pattern_in text }) else None

@@ -2,10 +2,11 @@
 #![tactic(auto)]
 
 ghost use Rattle.std.specs.Prelude.{◌≡◌};
+ghost use Rattle.bits.specs.Checks.{number_of};
 ghost use Rattle.job_line.specs.Job.{answer_of, asked, numbers_number};
 
-use bits::checks;
-use line::Line;
+use acm::AcmFormat;
+use bits::Refusal;
 
 mod line;
 
@@ -15,38 +16,31 @@ pub const LONGEST: usize = 8;
 // The last of the patterns 0, 1 and 2.
 const LAST_PATTERN: u64 = 2;
 
-// The answer to a job line.
-#[derive(Drop)]
-pub enum Job {
-    Run { format: u64, pattern: u64 },
-    // The number of the check that failed.
-    Refused(u8),
+// What a job line asks for.
+#[derive(Clone, Copy, Debug, PartialEq, Eq)]
+pub struct Job {
+    pub format: u64,
+    pub pattern: u64,
 }
 
 // The job that a text asks for, for any bytes.
 // Checks: 6, the text is a well-formed line; 1; 7.
-pub fn parse(text: &[u8]) -> Job
+pub fn parse(text: &[u8]) -> Result<Job, Refusal>
     ensures { answer_of result ≡ asked text.now }
 {
-    let Line::Numbers { format, pattern } = line::read(text) else {
-        return Job::Refused(checks::LINE);
-    };
-    let number = check_numbers(format, pattern);
-    if number != checks::PASSED {
-        return Job::Refused(number);
-    }
-    Job::Run { format, pattern }
+    let job = line::read(text).ok_or(Refusal::Line)?;
+    check_numbers(job)?;
+    Ok(job)
 }
 
-// The number of the first check of a line's two numbers that fails, 0 if none does.
-fn check_numbers(format: u64, pattern: u64) -> u8
-    ensures { result ≡ numbers_number format pattern }
+// The checks of a line's two numbers.
+#[tactic(auto, unfolding(crate::specs::Job::numbers_number))]
+fn check_numbers(job: Job) -> Result<(), Refusal>
+    ensures { number_of result ≡ numbers_number job.format job.pattern }
 {
-    let acm::Found::Record(_) = acm::lookup(format) else {
-        return checks::FORMAT;
-    };
-    if LAST_PATTERN < pattern {
-        return checks::PATTERN;
+    AcmFormat::try_from(job.format)?;
+    if LAST_PATTERN < job.pattern {
+        return Err(Refusal::Pattern);
     }
-    checks::PASSED
+    Ok(())
 }

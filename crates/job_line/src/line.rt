@@ -1,96 +1,55 @@
 // The job line (document 01): format, comma, pattern, line feed, end.
-ghost use Rattle.std.specs.Prelude.{◌≡◌, true, ◌≤◌, length};
-ghost use Rattle.bits.specs.Place.{place as place_of};
+ghost use Rattle.std.specs.Prelude.{◌≡◌, true, ◌≤◌, ◌==◌, length, position};
 ghost use Rattle.job_line.specs.Line.{value as value_of, all_digits, field_digits, field_of, line_of};
 
-use ascii::steps::{COMMA, LINE_FEED, NINE, ZERO};
-
-// What a line holds.
-#[derive(Drop)]
-pub(crate) enum Line {
-    Numbers { format: u64, pattern: u64 },
-    Malformed,
-}
-
-// What a field holds.
-#[derive(Drop)]
-enum Field {
-    Number(u64),
-    NoNumber,
-}
+use crate::Job;
+use ascii::steps::{COMMA, LINE_FEED, ZERO};
 
 // Most digits of a field.
 const FIELD_DIGITS: usize = 3;
 
-// The two numbers of a line.
-pub(crate) fn read(text: &[u8]) -> Line
+// The two numbers of a line, which need not be those of a job that there is.
+pub(crate) fn read(text: &[u8]) -> Option<Job>
     ensures { result ≡ line_of text.now }
 {
-    let comma = place(text, COMMA);
-    if comma == text.len() {
-        return Line::Malformed;
-    }
+    let comma = place(text, COMMA)?;
     let rest = &text[comma + 1..];
-    let feed = place(rest, LINE_FEED);
+    let feed = place(rest, LINE_FEED)?;
     if feed + 1 != rest.len() {
-        return Line::Malformed;
+        return None;
     }
-    let Field::Number(format) = read_field(&text[..comma]) else {
-        return Line::Malformed;
-    };
-    let Field::Number(pattern) = read_field(&rest[..feed]) else {
-        return Line::Malformed;
-    };
-    Line::Numbers { format, pattern }
+    let format = read_field(&text[..comma])?;
+    let pattern = read_field(&rest[..feed])?;
+    Some(Job { format, pattern })
 }
 
 // The number of a field: 1 to 3 digits without a leading zero.
-fn read_field(text: &[u8]) -> Field
+fn read_field(text: &[u8]) -> Option<u64>
     ensures { result ≡ field_of text.now }
 {
-    if text.len() == 0 {
-        return Field::NoNumber;
-    }
-    if FIELD_DIGITS < text.len() {
-        return Field::NoNumber;
+    if text.is_empty() || FIELD_DIGITS < text.len() {
+        return None;
     }
     if text[0] == ZERO && text.len() != 1 {
-        return Field::NoNumber;
+        return None;
     }
     if !all_digits(text) {
-        return Field::NoNumber;
+        return None;
     }
-    Field::Number(value(text))
+    Some(value(text))
 }
 
-// The first place of a byte, the length if there is none.
-fn place(text: &[u8], byte: u8) -> usize
-    ensures { result ≡ place_of byte text.now }
+// The first place of a byte.
+fn place(text: &[u8], byte: u8) -> Option<usize>
+    ensures { result ≡ position (λ b. b == byte) text.now }
 {
-    let mut i = 0;
-    while i < text.len() {
-        if text[i] == byte {
-            return i;
-        }
-        i += 1;
-    }
-    i
+    text.iter().position(|&b| b == byte)
 }
 
 fn all_digits(text: &[u8]) -> bool
     ensures { result ≡ all_digits text.now }
 {
-    let mut i = 0;
-    while i < text.len() {
-        if text[i] < ZERO {
-            return false;
-        }
-        if NINE < text[i] {
-            return false;
-        }
-        i += 1;
-    }
-    true
+    text.iter().all(u8::is_ascii_digit)
 }
 
 // The number that digits write.
@@ -98,11 +57,9 @@ fn value(digits: &[u8]) -> u64
     requires { (length digits.now ≤ field_digits) × (all_digits digits.now ≡ true) }
     ensures { result ≡ value_of digits.now }
 {
-    let mut n: u64 = 0;
-    let mut i = 0;
-    while i < digits.len() {
-        n = 10 * n + (digits[i] - ZERO) as u64;
-        i += 1;
+    let mut n = 0;
+    for &digit in digits {
+        n = 10 * n + u64::from(digit - ZERO);
     }
     n
 }

@@ -1,43 +1,27 @@
-use mathlib.Core.Path.{refl, ◌∙◌}
-use Prim.Native.Nat.{◌/◌}
+use mathlib.Core.Path.{◌≡◌, ap, ◌∙◌}
+use Prim.Native.Nat.{ℕ, ◌+◌, ◌-◌}
 use native.Mathlib.Omega.{arith}
-use lib.ListN.{length-set}
-use Rattle.ascii.proofs.Decimal.{decimal-some, length_more}
-use Rattle.ascii.proofs.Stores.{decimal-last, decimal-first}
+use lib.ListN.{length}
+use lib.Seq.{sets}
+use Rattle.ascii.specs.Text.{decimal}
+use Rattle.ascii.proofs.Decimal.{last_digits, last_digits-all}
+use Rattle.ascii.proofs.Stores.{decimal-turn}
 use Rattle.ascii.proofs.steps.put_decimal.Goals as goal
 
-pub overflow_sub-i : goal.overflow_sub-i
-overflow_sub-i c =
+pub loop-i-init : goal.loop-i-init
+loop-i-init c =
     let a = c.args in
-    omega (arith, c.digits.ensures, decimal-some a.n)
+    let all : a.at + c.digits.result - a.at ≡ length (decimal a.n) = omega (arith, c.digits.ensures) in
+    ap (λ (k : ℕ). sets a.out.now a.at (last_digits k a.n)) all ∙ rw (last_digits-all a.n)
 
-pub loop-rest-init : goal.loop-rest-init
-loop-rest-init c =
-    let a = c.args in
-    let some = decimal-some a.n in
-    let e = c.digits.ensures in
-    let room = c.requires in
-    (refl, omega arith, omega arith, refl)
+pub loop-i-preserved : goal.loop-i-preserved
+loop-i-preserved c =
+    let l = c.loop-i in
+    let at = c.args.at in
+    decimal-turn l.out at (l.i - 1) l.rest (l.i - 1 - at) (l.i - at) (omega arith) (omega arith) ∙ l.invariant
 
-pub overflow_sub-i-in-loop-rest : goal.overflow_sub-i-in-loop-rest
-overflow_sub-i-in-loop-rest c =
-    let l = c.loop-rest in
-    omega (arith, l.invariant.2, length_more l.rest c.loop-rest-test.true, decimal-some (l.rest / 10))
-
-pub loop-rest-preserved : goal.loop-rest-preserved
-loop-rest-preserved c =
-    let l = c.loop-rest in
-    let high = c.loop-rest-test.true in (
-      simp length-set l.invariant.0,
-      omega (arith, l.invariant.1),
-      omega (arith, l.invariant.2, length_more l.rest high, decimal-some (l.rest / 10)),
-      decimal-last _ _ _ _ _ l.invariant.2 high c.digit.ensures ∙ l.invariant.3,
-    )
-
-pub returns : goal.returns
-returns c =
-    let l = c.loop-rest in
-    record {
-      value = omega (arith, c.digits.ensures);
-      out_after = decimal-first _ _ _ _ _ l.invariant.2 c.loop-rest-test.false c.digit-2.ensures ∙ l.invariant.3;
-    }
+pub returns-clause-out_after : goal.returns-clause-out_after
+returns-clause-out_after c =
+    let l = c.loop-i in
+    let none : l.i - c.args.at ≡ 0 = omega arith in
+    rw none at l.invariant
