@@ -4,7 +4,7 @@ use mathlib.Core.Bool.{true, false, false≢true}
 use mathlib.Core.List.{List, [], ◌∷◌, ◌++◌, map}
 use Prim.Native.Nat.{ℕ, suc, ◌+◌, ◌-◌, ◌^◌, ◌≤◌, ◌<◌}
 use native.Mathlib.Omega.{arith}
-use borrow.Author.Tests.{eqb-true, eq-eqb, ne_eqb}
+use borrow.Author.Tests.{eqb-true, ne_eqb}
 use lib.Dec.{eqb}
 use lib.ListN.{length, get_or, take, drop, length-append}
 use lib.Seq.{take_at, drop-append-add}
@@ -20,9 +20,6 @@ use Rattle.annex_c.proofs.Test.{Sound, test, tested, test-sound}
 
 -- what one more width says of the rest
 module _ (w : ℕ) (l : List ℕ) (k : ℕ) (h : k < length l) where
-  pub rows_here : get_or l k 0 ≡ w → rows_before w (drop k l) ≡ 0
-  rows_here e = rw (drop-next l k h, eq-eqb _ _ e)
-
   pub rows_next : (get_or l k 0 ≡ w → ⊥) → rows_before w (drop k l) ≡ get_or l k 0 + rows_before w (drop (k + 1) l)
   rows_next n = rw (drop-next l k h, ne_eqb _ _ n)
 
@@ -77,11 +74,6 @@ pub record Part (start w : ℕ) (table v : List ℕ) : Type 0 where
   pub inside : start + w ≤ length table
   pub is : take (start + w - start) (drop start table) ≡ v
   pub long : length v ≡ w
-
--- a buffer that it was copied to
-pub copied : {start w : ℕ} {table v : List ℕ} (out : List ℕ) {exit : List ℕ} → Part start w table v
-    → (let part = take (start + w - start) (drop start table) in exit ≡ part ++ drop (length part) out) → exit ≡ v ++ drop w out
-copied out p e = rw (p.is, p.long) at e
 
 part_of : (v : Size → List ℕ) → ((s : Size) → Sound s → length (v s) ≡ s.W) → (w : ℕ) → is_size w ≡ true → length (v (size_of w)) ≡ w
     → Part (rows_before w (widths sizes)) w (flat v sizes) (v (size_of w))

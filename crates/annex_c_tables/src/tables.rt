@@ -8,18 +8,18 @@ pub const SIZES: usize = 19;
 pub const ROWS: usize = 5367;
 
 // W of each size.
-pub const WIDTHS: [usize; SIZES] = [
+pub static WIDTHS: [usize; SIZES] = [
     72, 87, 105, 123, 141, 165, 186, 213, 240, 267, 294, 324, 354, 387, 417, 450, 483, 513, 546,
 ];
 
 // Whether a size has rows that stand in for published ones.
-pub const STAND_IN: [bool; SIZES] = [
+pub static STAND_IN: [bool; SIZES] = [
     false, false, false, false, false, false, false, false, false, true, false, false, false,
     false, false, false, false, false, false,
 ];
 
 // The vectors α.
-pub const ALPHA: [u16; ROWS] = [
+pub static ALPHA: [u16; ROWS] = [
     63, 33, 64, 56, 59, 5, 58, 52, 61, 47, 57, 35, 29, 60, 36, 24, 10, 20, 66, 17, 31, 16, 67, 28,
     18, 9, 6, 62, 2, 27, 71, 34, 14, 39, 68, 51, 21, 13, 37, 23, 40, 41, 30, 44, 25, 65, 48, 69,
     26, 43, 55, 0, 45, 50, 70, 7, 32, 12, 42, 11, 46, 1, 8, 15, 53, 3, 19, 4, 22, 49, 54, 38, 70,
@@ -287,7 +287,7 @@ pub const ALPHA: [u16; ROWS] = [
 ];
 
 // The vectors β.
-pub const BETA: [u8; ROWS] = [
+pub static BETA: [u8; ROWS] = [
     116, 69, 103, 92, 77, 73, 58, 46, 107, 1, 52, 90, 32, 119, 3, 68, 60, 30, 83, 63, 41, 50, 6,
     24, 22, 101, 62, 57, 18, 66, 9, 37, 81, 114, 115, 82, 26, 29, 94, 39, 48, 98, 76, 5, 112, 35,
     71, 20, 96, 85, 110, 52, 19, 102, 55, 14, 44, 9, 15, 80, 89, 106, 119, 100, 45, 17, 43, 87, 88,

@@ -1,10 +1,10 @@
--- The rows behind those of the sizes before are the size's own, and they are what is copied.
+-- The rows behind those of the sizes before are the size's own.
 use mathlib.Core.Path.{refl}
 use native.Mathlib.Omega.{arith}
 use Rattle.annex_c.specs.AnnexC.{size_of}
-use Rattle.annex_c_tables.proofs.Flats.{Part, α_from, β_from, copied}
-use Rattle.annex_c_tables.proofs.steps.load_from.Goals.{After-locate-start}
-use Rattle.annex_c_tables.proofs.steps.load_from.Goals as goal
+use Rattle.annex_c_tables.proofs.Flats.{Part, α_from, β_from}
+use Rattle.annex_c_tables.proofs.steps.lend.Goals.{After-locate-start}
+use Rattle.annex_c_tables.proofs.steps.lend.Goals as goal
 
 module _ (c : After-locate-start) where
   α : Part c.locate-start.result.rows c.args.w c.args.alphas.now (size_of c.args.w).α
@@ -23,16 +23,14 @@ overflow_add-end c = omega (arith, (α (goal.at.overflow_add-end c).After-locate
 pub offset_bounds-alphas-start : goal.offset_bounds-alphas-start
 offset_bounds-alphas-start c = omega (arith, (α (goal.at.offset_bounds-alphas-start c).After-locate-start).inside)
 
-pub slice_bounds-copy-end : goal.slice_bounds-copy-end
-slice_bounds-copy-end c = (α (goal.at.slice_bounds-copy-end c).After-locate-start).inside
+pub slice_bounds-result-end : goal.slice_bounds-result-end
+slice_bounds-result-end c = (α (goal.at.slice_bounds-result-end c).After-locate-start).inside
 
-pub slice_bounds-copy-end-2 : goal.slice_bounds-copy-end-2
-slice_bounds-copy-end-2 c = (β (goal.at.slice_bounds-copy-end-2 c).After-locate-start).inside
+pub slice_bounds-result-end-2 : goal.slice_bounds-result-end-2
+slice_bounds-result-end-2 c = (β (goal.at.slice_bounds-result-end-2 c).After-locate-start).inside
 
-pub returns : goal.returns
-returns c =
-    let e = c.copy.ensures in
-    record {
-      alpha_after = copied c.args.alpha.now (α (goal.at.returns c).After-locate-start) e.alpha_after;
-      beta_after = copied c.args.beta.now (β (goal.at.returns c).After-locate-start) e.beta_after;
-    }
+pub returns-clause-alpha_value : goal.returns-clause-alpha_value
+returns-clause-alpha_value c = (α (goal.at.returns-clause-alpha_value c).After-locate-start).is
+
+pub returns-clause-beta_value : goal.returns-clause-beta_value
+returns-clause-beta_value c = (β (goal.at.returns-clause-beta_value c).After-locate-start).is
