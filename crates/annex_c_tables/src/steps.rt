@@ -8,14 +8,14 @@ use crate::tables;
 
 // The vectors of a size, lent from the tables.
 #[derive(Clone, Copy)]
-pub struct Vectors {
+pub struct SizeVectors {
     pub alpha: &'static [u16],
     pub beta: &'static [u8],
 }
 
-impl Vectors {
+impl SizeVectors {
     // Those of the size with W = w.
-    pub fn of_size(w: usize) -> Vectors
+    pub fn of(w: usize) -> SizeVectors
         requires { is_size w ≡ true }
         ensures alpha_value { result.alpha.now ≡ (size_of w).α }
         ensures beta_value { result.beta.now ≡ (size_of w).β }
@@ -25,7 +25,7 @@ impl Vectors {
 }
 
 // The same with annex C's tables passed, so that its proof does not go over their numbers.
-fn lend(widths: &[usize], alphas: &'static [u16], betas: &'static [u8], w: usize) -> Vectors
+fn lend(widths: &[usize], alphas: &'static [u16], betas: &'static [u8], w: usize) -> SizeVectors
     requires tables { Tables widths.now alphas.now betas.now }
     requires w_value { is_size w ≡ true }
     ensures alpha_value { result.alpha.now ≡ (size_of w).α }
@@ -33,7 +33,7 @@ fn lend(widths: &[usize], alphas: &'static [u16], betas: &'static [u8], w: usize
 {
     let start = locate(widths, w).rows;
     let end = start + w;
-    Vectors {
+    SizeVectors {
         alpha: &alphas[start..end],
         beta: &betas[start..end],
     }

@@ -1,6 +1,5 @@
 pub mod Expanded
 pub mod Formats
 pub mod Laws
-pub mod Loaded
 pub mod Tables
 pub mod Walks

@@ -8,7 +8,7 @@ use lib.ListN.{length, get_or}
 use Rattle.acm.specs.Formats.{M}
 use Rattle.annex_c.specs.AnnexC.{Vectors}
 use Rattle.interleaver.specs.Interleaver.{permuted}
-use Rattle.interleaver.specs.Walk.{Walked, InColumn, Multiples, down_one, bank_sum}
+use Rattle.interleaver.specs.Walk.{Walked, InColumn, Multiples, down_one}
 use Rattle.interleaver.specs.declared.steps.Walk.{Walk}
 use Rattle.interleaver.proofs.Laws.{row_low, bank_low, row_of, bank_of, inside}
 
@@ -61,30 +61,31 @@ module _ (W : ℕ) (from at : Walk) (to : ℕ) (c : InColumn W at) (column : at.
   pub way_walked : Walked W at
   way_walked = walked-inside W at c way_row
 
--- equation A-1 at a walk
-module _ (α β : List ℕ) (v : Vectors α β) (at : Walk) (walked : Walked (length α) at) (h : at.position.0 < M * length α) where
+-- equation A-1 at a row of a column; its bank is the column and the row's β, added, modulo M
+module _ (α β : List ℕ) (v : Vectors α β) (column row : ℕ) (c : column < M) (r : row < length α) where
   abbrev sum : ℕ
-  sum = bank_sum β at
+  sum = column + get_or β row 0
 
-  pub sum_low : sum < 2 * M
-  sum_low = omega (arith, walked-column (length α) at walked h, v.β_range at.row (walked_row (length α) at walked h))
+  abbrev position : ℕ
+  position = permuted α β (length α * column + row)
 
-  permuted-walked : permuted α β at.position.0 ≡ length α * (sum % M) + get_or α at.row 0
+  sum_low : sum < 2 * M
+  sum_low = omega (arith, v.β_range row r)
+
+  permuted-in : position ≡ length α * (sum % M) + get_or α row 0
   unfolding permuted
-  permuted-walked = rw (walked.row_is, walked.column-is)
+  permuted-in = rw (row_of (length α) column row r, bank_of (length α) column row r)
 
   -- with W × bank looked up
-  pub interleaved-walked : (starts : List ℕ) → Multiples (length α) (M * length α) starts
-      → get_or starts sum 0 + get_or α at.row 0 ≡ permuted α β at.position.0
-  interleaved-walked starts m =
-      let bank : length α * (sum % M) < M * length α = omega (arith, inside (length α) (sum % M) 0 (omega (arith, walked_row (length α) at walked h)) (mod-lt sum (omega arith))) in
-      rw permuted-walked (ap (λ (k : ℕ). k + get_or α at.row 0) (m.entry sum sum_low ∙ mod-eq_of_lt bank))
+  pub interleaved-in : (starts : List ℕ) → Multiples (length α) (M * length α) starts → get_or starts sum 0 + get_or α row 0 ≡ position
+  interleaved-in starts m =
+      let bank : length α * (sum % M) < M * length α = omega (arith, inside (length α) (sum % M) 0 (omega arith) (mod-lt sum (omega arith))) in
+      rw permuted-in (ap (λ (k : ℕ). k + get_or α row 0) (m.entry sum sum_low ∙ mod-eq_of_lt bank))
 
   module _ (P : ℕ) (some : 0 < P) (residues : List ℕ) (m : Multiples (length α) P residues) where
-    pub residue_walked : (get_or residues sum 0 + get_or α at.row 0) % P ≡ permuted α β at.position.0 % P
-    residue_walked =
-        rw permuted-walked (ap (λ (k : ℕ). (k + get_or α at.row 0) % P) (m.entry sum sum_low) ∙ mod-add-mod (length α * (sum % M)) P (get_or α at.row 0))
+    pub residue_in : (get_or residues sum 0 + get_or α row 0) % P ≡ position % P
+    residue_in =
+        rw permuted-in (ap (λ (k : ℕ). (k + get_or α row 0) % P) (m.entry sum sum_low) ∙ mod-add-mod (length α * (sum % M)) P (get_or α row 0))
 
-    pub residue_low : get_or residues sum 0 + get_or α at.row 0 < P + length α
-    residue_low =
-        omega (arith, m.entry sum sum_low, mod-lt (length α * (sum % M)) some, v.α_range at.row (walked_row (length α) at walked h))
+    pub residue_low : get_or residues sum 0 + get_or α row 0 < P + length α
+    residue_low = omega (arith, m.entry sum sum_low, mod-lt (length α * (sum % M)) some, v.α_range row r)

@@ -17,10 +17,6 @@ pub record InColumn (W : ℕ) (at : Walk) : Type 0 where
 abbrev pub down_one : Walk → Walk
 down_one at = record { position = record { 0 = at.position.0 + 1 }; row = at.row + 1; column = at.column }
 
--- a walk's column and its row's β, added: the bank is their sum modulo M (A-1)
-abbrev pub bank_sum : List ℕ → Walk → ℕ
-bank_sum β at = at.column + get_or β at.row 0
-
 -- W × bank modulo P, for each such sum
 pub record Multiples (W P : ℕ) (l : List ℕ) : Type 0 where
   pub long : length l ≡ 2 * M

@@ -1,13 +1,15 @@
 // The interleaver (4.3, annex C).
 #![tactic(auto)]
 
-ghost use Rattle.std.specs.Prelude.{◌≡◌, true, ◌*◌, ◌<◌, length};
+ghost use Rattle.std.specs.Prelude.{◌≡◌, ◌*◌, ◌<◌, length};
 ghost use Rattle.acm.specs.Formats.{M};
-ghost use Rattle.annex_c.specs.AnnexC.{Vectors, is_size, size_of};
+ghost use Rattle.annex_c.specs.AnnexC.{Vectors};
 ghost use Rattle.interleaver.specs.Interleaver.{permuted, answer_of, interleaved_at};
 ghost use Rattle.interleaver.specs.Provenance.{provenance_of, provenance_at};
 
-use acm::Found;
+use acm::AcmFormat;
+use annex_c_tables::steps::SizeVectors;
+use bits::Refusal;
 
 pub mod steps;
 
@@ -15,11 +17,11 @@ pub mod steps;
 const M: usize = 120;
 
 // A position in the upper register, i of the standard (document 01: a place in the upper register).
-#[derive(Clone, Copy)]
+#[derive(Clone, Copy, Debug, PartialEq, Eq)]
 pub struct UpperPosition(pub usize);
 
 // Its interleaved position, π(i) (document 01: an interleaved place). Only the interleaver can make one.
-#[derive(Clone, Copy)]
+#[derive(Clone, Copy, Debug, PartialEq, Eq)]
 pub struct InterleavedPosition(usize);
 
 impl InterleavedPosition {
@@ -31,75 +33,50 @@ impl InterleavedPosition {
     }
 }
 
-// The answer of an interleave call.
-#[derive(Clone, Copy)]
-pub enum Interleaved {
-    At(InterleavedPosition),
-    NoFormat,
-    Outside,
-}
-
 // The interleaved position π(i) of position i, for any format number and any i.
 // Checks: 1, 8.
-pub fn interleave(format: u64, position: UpperPosition) -> Interleaved
+pub fn interleave(format: u64, position: UpperPosition) -> Result<InterleavedPosition, Refusal>
     ensures { answer_of result ≡ interleaved_at format position.0 }
 {
-    let Found::Record(entry) = acm::lookup(format) else {
-        return Interleaved::NoFormat;
-    };
-    let i = position.0;
-    if entry.i <= i {
-        return Interleaved::Outside;
+    let record = AcmFormat::try_from(format)?.record();
+    if record.i <= position.0 {
+        return Err(Refusal::Place);
     }
-    Interleaved::At(in_size(entry.w, position))
-}
-
-// The interleaved position in the size with W = w.
-fn in_size(w: usize, position: UpperPosition) -> InterleavedPosition
-    requires w_value { is_size w ≡ true }
-    requires position_bound { position.0 < M * w }
-    ensures { result.0 ≡ permuted (size_of w).α (size_of w).β position.0 }
-{
-    let mut alpha = [0u16; annex_c_tables::steps::WIDEST];
-    let mut beta = [0u8; annex_c_tables::steps::WIDEST];
-    annex_c_tables::steps::load(w, &mut alpha, &mut beta);
-    permute(&alpha[..w], &beta[..w], position)
+    Ok(permute(SizeVectors::of(record.w), position))
 }
 
 // The interleaved position by equation A-1, over any two vectors.
-fn permute(alpha: &[u16], beta: &[u8], position: UpperPosition) -> InterleavedPosition
-    requires vectors { Vectors alpha.now beta.now }
-    requires position_bound { position.0 < M * length alpha.now }
-    ensures { result.0 ≡ permuted alpha.now beta.now position.0 }
+fn permute(vectors: SizeVectors, position: UpperPosition) -> InterleavedPosition
+    requires ranges { Vectors vectors.alpha.now vectors.beta.now }
+    requires position_bound { position.0 < M * length vectors.alpha.now }
+    ensures { result.0 ≡ permuted vectors.alpha.now vectors.beta.now position.0 }
 {
-    let w = alpha.len();
+    let w = vectors.alpha.len();
     let i = position.0;
     let row = i % w;
-    let shift = beta[row] as usize;
-    let address = alpha[row] as usize;
+    let shift = usize::from(vectors.beta[row]);
+    let address = usize::from(vectors.alpha[row]);
     InterleavedPosition(w * ((i / w + shift) % M) + address)
 }
 
 // Where the rows of a format's interleaver come from.
-#[derive(Clone, Copy)]
+#[derive(Clone, Copy, Debug, PartialEq, Eq)]
 pub enum Source {
     // each of them from the standard
     Published,
     // some of them stand in for published ones
     StandIn,
-    NoFormat,
 }
 
 // Whether the interleaver of a format has rows that stand in for published ones, for any format number.
 // Checks: 1.
-pub fn provenance(format: u64) -> Source
+pub fn provenance(format: u64) -> Result<Source, Refusal>
     ensures { provenance_of result ≡ provenance_at format }
 {
-    let Found::Record(entry) = acm::lookup(format) else {
-        return Source::NoFormat;
-    };
-    if annex_c_tables::steps::stand_in(entry.w) {
-        return Source::StandIn;
+    let format = AcmFormat::try_from(format)?;
+    if annex_c_tables::steps::stand_in(format.record().w) {
+        Ok(Source::StandIn)
+    } else {
+        Ok(Source::Published)
     }
-    Source::Published
 }

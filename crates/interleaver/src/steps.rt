@@ -1,12 +1,119 @@
-// Opened to the inner encoder and the expanded interleaver alone: a walk over the positions in order, and an expanded interleaver's entries.
+// Opened to the inner encoder and the expanded interleaver alone: a format's interleaver, a walk over its positions in order, and an expanded
+// interleaver's entries.
 ghost use Rattle.std.specs.Prelude.{◌≡◌, true, ℕ, ◌+◌, ◌*◌, ◌%◌, ◌≤◌, ◌<◌, min, length, get_or};
 ghost use Rattle.acm.specs.Formats.{M, format_of};
-ghost use Rattle.annex_c.specs.AnnexC.{Vectors, widest};
+ghost use Rattle.annex_c.specs.AnnexC.{Vectors, widest, size_of};
 ghost use Rattle.interleaver.specs.Interleaver.{permuted, π};
 ghost use Rattle.interleaver.specs.Expanded.{expands};
-ghost use Rattle.interleaver.specs.Walk.{Walked, InColumn, Multiples, down_one, bank_sum};
+ghost use Rattle.interleaver.specs.Walk.{Walked, InColumn, Multiples, down_one};
 
 use crate::{InterleavedPosition, M, UpperPosition};
+use acm::AcmFormat;
+use annex_c_tables::steps::SizeVectors;
+
+// The banks of any column and any β: 0 to M - 1, twice over, so that their sum needs no modulo.
+pub const BANKS: usize = 2 * M;
+
+// The interleaver of a size: its vectors α and β, one element a row, and W × bank for each sum of a column and a β.
+#[derive(Clone, Copy)]
+pub struct Permutation {
+    pub alpha: &'static [u16],
+    pub beta: &'static [u8],
+    starts: [u16; BANKS],
+    pub ghost ranges: { Vectors alpha.now beta.now },
+    pub ghost starts_are: { Multiples (length alpha.now) (M * length alpha.now) starts },
+}
+
+impl Permutation {
+    // That of a format.
+    pub fn of_format(format: AcmFormat) -> Permutation
+        ensures alpha_value { result.alpha.now ≡ (size_of (format_of format.number).w).α }
+        ensures beta_value { result.beta.now ≡ (size_of (format_of format.number).w).β }
+    {
+        let w = format.record().w;
+        let SizeVectors { alpha, beta } = SizeVectors::of(w);
+        Permutation {
+            alpha,
+            beta,
+            starts: multiples(w, M * w),
+        }
+    }
+
+    // W: the rows of a column.
+    pub fn rows(&self) -> usize
+        ensures { result ≡ length self.now.alpha.now }
+    {
+        self.alpha.len()
+    }
+
+    // The interleaved position of a row in a column, by equation A-1. Nothing is divided.
+    pub fn position_in(&self, column: usize, row: usize) -> InterleavedPosition
+        requires { (column < M) × (row < length self.now.alpha.now) }
+        ensures { result.0 ≡ permuted self.now.alpha.now self.now.beta.now (length self.now.alpha.now * column + row) }
+    {
+        InterleavedPosition(self.looked_up(&self.starts, column, row))
+    }
+
+    // The interleaved position where a walk stands.
+    pub fn position_at(&self, walk: Walk) -> InterleavedPosition
+        requires { Walked (length self.now.alpha.now) walk × (walk.position.0 < M * length self.now.alpha.now) }
+        ensures { result.0 ≡ permuted self.now.alpha.now self.now.beta.now walk.position.0 }
+    {
+        self.position_in(walk.column, walk.row)
+    }
+
+    // W × bank modulo a period, for each sum of a column and a β.
+    pub fn residues(&self, period: usize) -> [u16; BANKS]
+        requires { (0 < period) × (period ≤ M * widest) }
+        ensures { Multiples (length self.now.alpha.now) period result }
+    {
+        multiples(self.rows(), period)
+    }
+
+    // A number that leaves what the interleaved position where a walk stands leaves when divided by P; `residues` has W × bank modulo P.
+    // It is below P + W.
+    pub fn residue_at(&self, residues: &[u16; BANKS], walk: Walk) -> usize
+        requires { Walked (length self.now.alpha.now) walk × (walk.position.0 < M * length self.now.alpha.now) }
+        ensures { (P : ℕ) → 0 < P → Multiples (length self.now.alpha.now) P residues.now → (result % P ≡ permuted self.now.alpha.now self.now.beta.now walk.position.0 % P) × (result < P + length self.now.alpha.now) }
+    {
+        self.looked_up(residues, walk.column, walk.row)
+    }
+
+    // The entry of a row's bank in a column, and the row's α added.
+    fn looked_up(&self, banks: &[u16; BANKS], column: usize, row: usize) -> usize
+        requires { (column < M) × (row < length self.now.alpha.now) }
+        ensures { result ≡ get_or banks.now (column + get_or self.now.beta.now row 0) 0 + get_or self.now.alpha.now row 0 }
+    {
+        let shift = usize::from(self.beta[row]);
+        let address = usize::from(self.alpha[row]);
+        usize::from(banks[column + shift]) + address
+    }
+
+    // Where a walk to position `to` stops next: at the end of its column, or at `to` if that comes first.
+    pub fn stop(&self, walk: Walk, to: usize) -> usize
+        requires { InColumn (length self.now.alpha.now) walk × (walk.position.0 < M * widest) }
+        ensures { result ≡ min (length self.now.alpha.now * (walk.column + 1)) to }
+    {
+        let end = walk.position.0 + (self.rows() - walk.row);
+        end.min(to)
+    }
+
+    // The carry: from below its column's last row a walk goes on at the first row of the next column. Elsewhere it stays.
+    pub fn carry(&self, walk: Walk) -> Walk
+        requires { InColumn (length self.now.alpha.now) walk × (0 < length self.now.alpha.now) × (walk.column < M) }
+        ensures { (result.position.0 ≡ walk.position.0) × Walked (length self.now.alpha.now) result }
+    {
+        let w = self.rows();
+        if walk.row < w {
+            return walk;
+        }
+        Walk {
+            position: walk.position,
+            row: walk.row - w,
+            column: walk.column + 1,
+        }
+    }
+}
 
 // A walk over the positions in order: where it stands, and the row and column of that position as running values. Only the interleaver
 // makes one.
@@ -17,113 +124,51 @@ pub struct Walk {
     column: usize,
 }
 
-// A walk at the first position, whatever W is.
-pub fn start() -> Walk
-    ensures { (result.position.0 ≡ 0) × ((W : ℕ) → Walked W result) }
-{
-    Walk {
-        position: UpperPosition(0),
-        row: 0,
-        column: 0,
+impl Walk {
+    // A walk at the first position, whatever W is.
+    pub fn start() -> Walk
+        ensures { (result.position.0 ≡ 0) × ((W : ℕ) → Walked W result) }
+    {
+        Walk {
+            position: UpperPosition(0),
+            row: 0,
+            column: 0,
+        }
     }
-}
 
-// Where a walk to position `to` stops next: at the end of its column, or at `to` if that comes first.
-pub fn stop(walk: Walk, w: usize, to: usize) -> usize
-    requires { InColumn w walk × (walk.position.0 < M * widest) × (w ≤ widest) }
-    ensures { result ≡ min (w * (walk.column + 1)) to }
-{
-    let end = walk.position.0 + (w - walk.row);
-    if end < to {
-        return end;
+    // One row on in the column: nothing is carried.
+    pub fn down(self) -> Walk
+        requires { (self.row ≤ self.position.0) × (self.position.0 < M * widest) }
+        ensures { result ≡ down_one self }
+    {
+        Walk {
+            position: UpperPosition(self.position.0 + 1),
+            row: self.row + 1,
+            column: self.column,
+        }
     }
-    to
-}
-
-// One row on in the column: nothing is carried.
-pub fn down(walk: Walk) -> Walk
-    requires { (walk.row ≤ walk.position.0) × (walk.position.0 < M * widest) }
-    ensures { result ≡ down_one walk }
-{
-    Walk {
-        position: UpperPosition(walk.position.0 + 1),
-        row: walk.row + 1,
-        column: walk.column,
-    }
-}
-
-// The carry: from below its column's last row a walk goes on at the first row of the next column. Elsewhere it stays.
-pub fn carry(walk: Walk, w: usize) -> Walk
-    requires { InColumn w walk × (0 < w) × (walk.column < M) }
-    ensures { (result.position.0 ≡ walk.position.0) × Walked w result }
-{
-    if walk.row < w {
-        return walk;
-    }
-    let position = walk.position;
-    Walk {
-        position,
-        row: walk.row - w,
-        column: walk.column + 1,
-    }
-}
-
-// The interleaved position where a walk stands, by equation A-1; `starts` has W × bank. Nothing is divided.
-pub fn interleaved_at(starts: &[u16], alpha: &[u16], beta: &[u8], walk: Walk) -> InterleavedPosition
-    requires vectors { Vectors alpha.now beta.now × Multiples (length alpha.now) (M * length alpha.now) starts.now }
-    requires walked { Walked (length alpha.now) walk × (walk.position.0 < M * length alpha.now) }
-    ensures { result.0 ≡ permuted alpha.now beta.now walk.position.0 }
-{
-    InterleavedPosition(looked_up(starts, alpha, beta, walk))
-}
-
-// A number that leaves what that position leaves when divided by P; `residues` has W × bank modulo P. It is below P + W.
-pub fn residue_at(residues: &[u16], alpha: &[u16], beta: &[u8], walk: Walk) -> usize
-    requires vectors { Vectors alpha.now beta.now × (length residues.now ≡ 2 * M) }
-    requires walked { Walked (length alpha.now) walk × (walk.position.0 < M * length alpha.now) }
-    ensures { (P : ℕ) → 0 < P → Multiples (length alpha.now) P residues.now → (result % P ≡ permuted alpha.now beta.now walk.position.0 % P) × (result < P + length alpha.now) }
-{
-    looked_up(residues, alpha, beta, walk)
-}
-
-// The entry of a walk's bank, and its row's α added.
-fn looked_up(banks: &[u16], alpha: &[u16], beta: &[u8], walk: Walk) -> usize
-    requires vectors { Vectors alpha.now beta.now × (length banks.now ≡ 2 * M) }
-    requires walked { Walked (length alpha.now) walk × (walk.position.0 < M * length alpha.now) }
-    ensures { result ≡ get_or banks.now (bank_sum beta.now walk) 0 + get_or alpha.now walk.row 0 }
-{
-    let row = walk.row;
-    let shift = beta[row] as usize;
-    let address = alpha[row] as usize;
-    banks[walk.column + shift] as usize + address
 }
 
 // The interleaved position that a memory holds, once it is known to hold the format's.
-pub fn held(format: u64, memory: &[u16], position: UpperPosition) -> InterleavedPosition
-    requires { (expands format memory.now ≡ true) × (position.0 < (format_of format).i) }
-    ensures { result.0 ≡ π format position.0 }
+pub fn held(format: AcmFormat, memory: &[u16], position: UpperPosition) -> InterleavedPosition
+    requires { (expands format.number memory.now ≡ true) × (position.0 < (format_of format.number).i) }
+    ensures { result.0 ≡ π format.number position.0 }
 {
-    let i = position.0;
-    InterleavedPosition(memory[i] as usize)
+    InterleavedPosition(usize::from(memory[position.0]))
 }
 
-// The banks of any column and any β: 0 to M - 1, twice over, so that their sum needs no modulo.
-const BANKS: usize = 2 * M;
-
-// W × bank modulo a period, for each of them, made by adding W.
-pub fn multiples(w: usize, period: usize) -> [u16; BANKS]
+// W × bank modulo a period, for each of the banks, made by adding W.
+fn multiples(w: usize, period: usize) -> [u16; BANKS]
     requires { (0 < period) × (period ≤ M * widest) }
     ensures { Multiples w period result }
 {
-    let mut out = [0u16; BANKS];
+    let mut out = [0; BANKS];
     let step = w % period;
     let mut multiple = 0;
-    let mut bank = 0;
-    while bank < M {
+    for bank in 0..M {
         out[bank] = multiple as u16;
         out[bank + M] = multiple as u16;
         multiple = reduced(multiple + step, period);
-        bank += 1;
     }
     out
 }
@@ -134,7 +179,8 @@ fn reduced(number: usize, modulus: usize) -> usize
     ensures { result ≡ number % modulus }
 {
     if number < modulus {
-        return number;
+        number
+    } else {
+        number - modulus
     }
-    number - modulus
 }
