@@ -1,14 +1,14 @@
 -- Labels, a column at a time: what one more column makes of them, their bounds and their places.
 use mathlib.Core.Path.{◌≡◌, refl, sym, ap, ap₂, ◌∙◌}
 use mathlib.Core.Bool.{true}
-use mathlib.Core.List.{List, [], ◌∷◌, ◌++◌, append-nil, append_assoc}
+use mathlib.Core.List.{List, [], ◌∷◌, ◌++◌, append-nil}
 use Prim.Native.Nat.{ℕ, zero, suc, ◌+◌, ◌-◌, ◌*◌, ◌/◌, ◌%◌, ◌^◌, ◌≤◌, ◌<◌}
 use native.Mathlib.Nat.{pow-suc, pow-succ', add-zero, div-div-eq-div-mul}
 use native.Mathlib.Numerals.{add-one}
 use native.Mathlib.Omega.{arith}
 use borrow.Author.Tests.{le-leb}
-use lib.ListN.{length, get_or, drop, take, set, replicate, length-drop, get_or-append}
-use lib.Seq.{length-take-le, take-suc-set, drop-set-lt, get_or-take, get_or-drop}
+use lib.ListN.{length, get_or, drop, take, replicate, length-drop, get_or-append}
+use lib.Seq.{length-take-le, get_or-take, get_or-drop}
 use lib.Pow.{pow_mono, le_ones}
 use Rattle.bits.specs.Digits.{value}
 use Rattle.bits.specs.Legal.{all_at_most, all_bits}
@@ -78,20 +78,13 @@ pub labels-legal : (m : ℕ) (codeword : List ℕ) → all_bits codeword ≡ tru
 unfolding labels
 labels-legal m codeword h = legal_from m codeword h 0 symbols
 
--- a turn of the loop that appends a column, in place
-pub append-turn : (column out : List ℕ) (r : ℕ) → r < length column → r < length out
-    → take (r + 1) (set out r (2 * get_or out r 0 + get_or column r 0)) ++ appended (drop (r + 1) column) (drop (r + 1) (set out r (2 * get_or out r 0 + get_or column r 0)))
-    ≡ take r out ++ appended (drop r column) (drop r out)
-append-turn column out r hc ho =
-    let v = 2 * get_or out r 0 + get_or column r 0 in
-    let t : take (r + 1) (set out r v) ≡ take r out ++ v ∷ [] = rw (add-one r) (take-suc-set out r v ho) in
-    let d : drop (r + 1) (set out r v) ≡ drop (r + 1) out = drop-set-lt (r + 1) out r v (omega arith) in
-    rw (t, d, drop-next column r hc, drop-next out r ho) (append_assoc (take r out) (v ∷ []) (appended (drop (r + 1) column) (drop (r + 1) out)))
-
 -- the whole column of labels
-pub labels_start : (codeword : List ℕ) → labels 0 codeword ≡ replicate symbols 0
+-- none of its bits yet: zeros, written as a part of the buffer
+pub labels_start : (codeword out new : List ℕ) → symbols ≤ length out → new ≡ replicate (length (take symbols out)) 0
+    → new ++ drop symbols out ≡ labels 0 codeword ++ drop symbols out
 unfolding labels
-labels_start codeword = labels-none codeword 0 symbols
+labels_start codeword out new room e =
+    ap (λ (l : List ℕ). l ++ drop symbols out) (e ∙ ap (λ (n : ℕ). replicate n 0) (length-take-le symbols out room) ∙ sym (labels-none codeword 0 symbols))
 
 pub labels-long : (m : ℕ) (codeword : List ℕ) → length (labels m codeword) ≡ symbols
 unfolding labels

@@ -12,24 +12,10 @@ pub fn write(m: usize, codeword: &[u8], out: &mut [u8])
     requires { (m ≤ 8) × (length codeword.now ≡ symbols * m) × (all_bits codeword.now ≡ true) × (symbols ≤ length out.old) }
     ensures { out.new ≡ labels m codeword.now ++ drop symbols out.old }
 {
-    clear(out);
-    let mut c = 0;
-    while c < m {
+    out[..SYMBOLS].fill(0);
+    for c in 0..m {
         let start = c * SYMBOLS;
         append(&codeword[start..start + SYMBOLS], out);
-        c += 1;
-    }
-}
-
-// Writes 0 to the first 8,100 bytes.
-fn clear(out: &mut [u8])
-    requires { symbols ≤ length out.old }
-    ensures { out.new ≡ replicate symbols 0 ++ drop symbols out.old }
-{
-    let mut r = 0;
-    while r < SYMBOLS {
-        out[r] = 0;
-        r += 1;
     }
 }
 
@@ -39,9 +25,7 @@ fn append(column: &[u8], out: &mut [u8])
     requires by_index { (r : ℕ) → r < length column.now → 2 * get_or out.old r 0 + get_or column.now r 0 < 256 }
     ensures { out.new ≡ appended column.now out.old }
 {
-    let mut r = 0;
-    while r < column.len() {
-        out[r] = 2 * out[r] + column[r];
-        r += 1;
+    for (r, &bit) in column.iter().enumerate() {
+        out[r] = 2 * out[r] + bit;
     }
 }

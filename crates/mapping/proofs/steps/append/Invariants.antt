@@ -1,15 +1,12 @@
 -- At r the bytes before r have their bit, and those from r on are as they were.
 use mathlib.Core.Path.{◌≡◌}
 use mathlib.Core.List.{◌++◌}
-use Prim.Native.Nat.{ℕ, ◌-◌, ◌≤◌}
-use lib.ListN.{length, get_or, drop, take}
+use Prim.Native.Nat.{ℕ, ◌≤◌}
+use lib.ListN.{get_or, drop, take}
 use Rattle.mapping.specs.Columns.{appended}
 use Rattle.mapping.proofs.steps.append.Given as goal
 
 abbrev pub invariant-loop-r : goal.invariant-loop-r
 invariant-loop-r l =
-    (l.r ≤ length l.column) × (length l.out ≡ length l.initial.out) × ((k : ℕ) → l.r ≤ k → get_or l.out k 0 ≡ get_or l.initial.out k 0)
+    ((k : ℕ) → l.r ≤ k → get_or l.out k 0 ≡ get_or l.initial.out k 0)
     × (take l.r l.out ++ appended (drop l.r l.column) (drop l.r l.out) ≡ appended l.column l.initial.out)
-
-abbrev pub decreases-loop-r : goal.decreases-loop-r
-decreases-loop-r l = length l.column - l.r

@@ -1,14 +1,10 @@
 -- After c columns the first 8,100 bytes are the labels of c bits.
 use mathlib.Core.Path.{◌≡◌}
 use mathlib.Core.List.{◌++◌}
-use Prim.Native.Nat.{◌-◌, ◌≤◌}
-use lib.ListN.{length, drop}
+use lib.ListN.{drop}
 use Rattle.acm.specs.Formats.{symbols}
 use Rattle.mapping.specs.Labels.{labels}
 use Rattle.mapping.proofs.steps.write.Given as goal
 
 abbrev pub invariant-loop-c : goal.invariant-loop-c
-invariant-loop-c l = (l.c ≤ l.m) × (length l.out ≡ length l.initial.out) × (l.out ≡ labels l.c l.codeword ++ drop symbols l.initial.out)
-
-abbrev pub decreases-loop-c : goal.decreases-loop-c
-decreases-loop-c l = l.m - l.c
+invariant-loop-c l = l.out ≡ labels l.c l.codeword ++ drop symbols l.fn.out
