@@ -1,14 +1,14 @@
 // The physical layer frame (5): frame marker, frame descriptor and sixteen codeword sections.
 #![tactic(auto)]
 
-ghost use Rattle.std.specs.Prelude.{◌≡◌, true, ◌++◌, ◌≤◌, length, drop};
-ghost use Rattle.acm.specs.Formats.{is_format};
+ghost use Rattle.std.specs.Prelude.{◌≡◌, ◌++◌, ◌≤◌, length, drop, IfOk};
+ghost use Rattle.bits.specs.Checks.{number_of};
 ghost use Rattle.header.specs.Descriptor.{pilots_on};
 ghost use Rattle.framing.specs.Frame.{frame_labels, frame_length, frame as frame_of};
 ghost use Rattle.framing.specs.Calls.{frame_number, frame_output, section_labels, section_number};
 
-use acm::SYMBOLS;
-use bits::checks;
+use acm::{AcmFormat, SYMBOLS};
+use bits::Refusal;
 use pilots::steps::{SUBSECTION_LABELS, SUBSECTION_PILOTS};
 
 // Codeword sections of a frame.
@@ -32,38 +32,35 @@ const PILOT_FRAME_LENGTH: usize = FRAME_LENGTH
 // Checks: 1; 14, the choice is 0 or 1; 2, there are 129,600 labels; 3, each is below 2^m; 5, the output has at least 129,920 slots, with pilots
 // 133,760.
 // Afterwards so many slots of out, from the first, are the frame and the others as they were; on refusal all are.
-pub fn frame(format: u64, pilots: u64, labels: &[u8], out: &mut [u16]) -> u8
-    ensures number { result ≡ frame_number format pilots labels.now (length out.old) }
+pub fn frame(format: u64, pilots: u64, labels: &[u8], out: &mut [u16]) -> Result<(), Refusal>
+    ensures number { number_of result ≡ frame_number format pilots labels.now (length out.old) }
     ensures output { out.new ≡ frame_output format pilots labels.now out.old }
 {
-    let number = check_frame(format, pilots, labels, out.len());
-    if number != checks::PASSED {
-        return number;
-    }
+    let format = check_frame(format, pilots, labels, out.len())?;
     put_frame(format, pilots, labels, out);
-    checks::PASSED
+    Ok(())
 }
 
-// The number of the first check of frame that fails, 0 if none does.
-fn check_frame(format: u64, pilots: u64, labels: &[u8], room: usize) -> u8
-    ensures { result ≡ frame_number format pilots labels.now room }
+// The format, if all checks of frame hold.
+#[tactic(auto, using(std::proofs::lemmas::Bool::Decides::nat_tests), unfolding(crate::specs::Calls::frame_number))]
+fn check_frame(format: u64, pilots: u64, labels: &[u8], room: usize) -> Result<AcmFormat, Refusal>
+    ensures number { number_of result ≡ frame_number format pilots labels.now room }
+    ensures same { IfOk result (λ f. f.number ≡ format) }
 {
-    let acm::Found::Record(_) = acm::lookup(format) else {
-        return checks::FORMAT;
-    };
+    let format = AcmFormat::try_from(format)?;
     if PILOTS_ON < pilots {
-        return checks::PILOTS;
+        return Err(Refusal::Pilots);
     }
     if labels.len() != FRAME_LABELS {
-        return checks::LENGTH;
+        return Err(Refusal::Length);
     }
-    if !bits::all_at_most(labels, acm::top_label(format)) {
-        return checks::ELEMENT;
+    if !bits::all_at_most(labels, format.top_label()) {
+        return Err(Refusal::Element);
     }
     if room < frame_length(pilots) {
-        return checks::OUTPUT;
+        return Err(Refusal::Output);
     }
-    checks::PASSED
+    Ok(format)
 }
 
 // The slots of a frame with a pilot choice; of a number that is no choice, those of one without pilots.
@@ -71,15 +68,16 @@ pub fn frame_length(pilots: u64) -> usize
     ensures { result ≡ frame_length pilots }
 {
     if pilots == PILOTS_ON {
-        return PILOT_FRAME_LENGTH;
+        PILOT_FRAME_LENGTH
+    } else {
+        FRAME_LENGTH
     }
-    FRAME_LENGTH
 }
 
 // The header and behind it the labels, with pilots or without, to the front of out.
-fn put_frame(format: u64, pilots: u64, labels: &[u8], out: &mut [u16])
-    requires { (is_format format ≡ true) × (pilots ≤ pilots_on) × (length labels.now ≡ frame_labels) × (frame_length pilots ≤ length out.old) }
-    ensures { out.new ≡ frame_of format pilots labels.now ++ drop (frame_length pilots) out.old }
+fn put_frame(format: AcmFormat, pilots: u64, labels: &[u8], out: &mut [u16])
+    requires { (pilots ≤ pilots_on) × (length labels.now ≡ frame_labels) × (frame_length pilots ≤ length out.old) }
+    ensures { out.new ≡ frame_of format.number pilots labels.now ++ drop (frame_length pilots) out.old }
 {
     header::steps::put(format, pilots, out);
     if pilots == PILOTS_ON {
@@ -89,29 +87,19 @@ fn put_frame(format: u64, pilots: u64, labels: &[u8], out: &mut [u16])
     }
 }
 
-// The codeword section at a place from 0 to 15 (document 01: a part): 8,100 of the caller's own labels, none on refusal.
-// Checks: those of section_number, which answers their number.
-pub fn section(labels: &[u8], place: u64) -> &[u8]
-    ensures { result.now ≡ section_labels labels.now place }
-{
-    if section_number(labels, place) != checks::PASSED {
-        return &labels[..0];
-    }
-    let from = place as usize * SYMBOLS;
-    let to = from + SYMBOLS;
-    &labels[from..to]
-}
-
-// The number of the first check of section that fails, 0 if none does.
+// The codeword section at a place from 0 to 15 (document 01: a part): 8,100 of the caller's own labels.
 // Checks: 2, there are 129,600 labels; 8, the place is 0 to 15.
-pub fn section_number(labels: &[u8], place: u64) -> u8
-    ensures { result ≡ section_number labels.now place }
+#[tactic(auto, using(std::proofs::lemmas::Bool::Decides::nat_tests), unfolding(crate::specs::Calls::section_number))]
+pub fn section(labels: &[u8], place: u64) -> Result<&[u8], Refusal>
+    ensures number { number_of result ≡ section_number labels.now place }
+    ensures part { IfOk result (λ part. part.now ≡ section_labels labels.now place) }
 {
     if labels.len() != FRAME_LABELS {
-        return checks::LENGTH;
+        return Err(Refusal::Length);
     }
     if SECTIONS as u64 <= place {
-        return checks::PLACE;
+        return Err(Refusal::Place);
     }
-    checks::PASSED
+    let from = place as usize * SYMBOLS;
+    Ok(&labels[from..from + SYMBOLS])
 }
