@@ -1,5 +1,5 @@
 // Opened to the encoder alone: the labels of a codeword, a column at a time: the label so far is doubled and takes the next bit.
-ghost use Rattle.std.specs.Prelude.{◌≡◌, true, ◌++◌, ℕ, ◌+◌, ◌*◌, ◌≤◌, ◌<◌, length, get_or, drop, replicate};
+ghost use Rattle.std.specs.Prelude.{◌≡◌, true, ◌++◌, ℕ, ◌+◌, ◌*◌, ◌≤◌, ◌<◌, length, get_or, drop};
 ghost use Rattle.bits.specs.Legal.{all_bits};
 ghost use Rattle.acm.specs.Formats.{symbols};
 ghost use Rattle.mapping.specs.Labels.{labels};

@@ -12,10 +12,8 @@ pub fn write(count: usize, list: &[u8], out: &mut [u8], at: usize)
     requires { (all_bits list.now ≡ true) × (length list.now ≡ piece_length * count) × (at + symbols * count ≤ length out.old) }
     ensures { out.new ≡ sets out.old at (coded_pieces count list.now) }
 {
-    let mut j = 0;
-    while j < count {
+    for j in 0..count {
         let start = j * PIECE_LENGTH;
         bch::steps::encode(&list[start..start + PIECE_LENGTH], out, at + j * SYMBOLS);
-        j += 1;
     }
 }

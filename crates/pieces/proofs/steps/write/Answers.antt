@@ -14,11 +14,11 @@ encode-requires c =
     let long = piece_length_lem a.count a.list.now j c.requires.1 c.loop-j-test.true n (omega arith) in (
       legal-take 1 n _ (legal-drop 1 (j * piece_length) a.list.now c.requires.0),
       ap (λ (k : ℕ). k % 8) long,
-      omega (arith, long, c.loop-j.invariant.1.same, c.requires.2),
+      omega (arith, long, c.loop-j.invariant.same, c.requires.2),
     )
 
 pub loop-j-preserved : goal.loop-j-preserved
 loop-j-preserved c =
     let a = c.args in
     let j = c.loop-j.j in
-    (omega arith, pieces-turn a.count a.list.now j c.requires.1 c.loop-j-test.true (j * piece_length + piece_length - j * piece_length) _ (omega arith) c.encode.ensures c.loop-j.invariant.1)
+    pieces-turn a.count a.list.now j c.requires.1 c.loop-j-test.true (j * piece_length + piece_length - j * piece_length) _ (omega arith) c.encode.ensures c.loop-j.invariant
