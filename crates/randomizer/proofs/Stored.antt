@@ -1,32 +1,42 @@
 -- How the stores of octets make a randomized frame.
-use mathlib.Core.Path.{◌≡◌, sym, ap, ◌∙◌}
+use mathlib.Core.Path.{◌≡◌, refl, sym, ap, ap₂, ◌∙◌}
 use mathlib.Core.List.{List, [], ◌∷◌, ◌++◌, append-nil}
-use Prim.Native.Nat.{ℕ, zero, suc, min, ◌+◌, ◌-◌, ◌*◌, ◌/◌, ◌%◌, ◌≤◌, ◌<◌}
+use Prim.Native.Nat.{ℕ, zero, suc, min, ◌+◌, ◌*◌, ◌/◌, ◌%◌, ◌^◌, ◌≤◌, ◌<◌}
+use native.Mathlib.Nat.{div-div-eq-div-mul}
+use native.Mathlib.Numerals.{unary_clauses}
 use native.Mathlib.Omega.{arith}
+use borrow.Rule.Slice.PartMut.{put_mid}
 use borrow.Author.Tests.{leb-true, leb-false}
 use lib.Bits.{bit_xor}
 use lib.Dec.{leb}
-use lib.ListN.{length, get_or, take, drop, drop_of_length-le, length-drop, length-map, take-append-drop, get_or-map}
-use lib.Seq.{sets, drop-drop, length-take-le}
+use lib.ListN.{length, get_or, drop, drop_of_length-le, length-append, length-map, get_or-map}
+use lib.Seq.{sets}
+use Rattle.std.specs.Int.{w64, byte_at, bytes_low_first, to_le_bytes}
 use Rattle.bits.specs.Words.{bits_of, unpacked}
 use Rattle.bits.proofs.Cases.{by_cases}
 use Rattle.bits.proofs.Fill.{Left, left-stretch}
 use Rattle.bits.proofs.Lists.{drop-next}
+use Rattle.bits.proofs.Parts.{sets_of_part}
 use Rattle.bits.proofs.Words.{length-bits}
 use Rattle.randomizer.specs.Randomizer.{octet_length, randomized}
 use Rattle.randomizer.specs.Tables.{masked, bytes_of, count_from, Spread, Masks}
 use Rattle.randomizer.proofs.Randomized.{masked-is, randomized-anew, randomized-length}
 
--- the first of the bytes that follow k others, and none where all are past
-pub bytes_next : (n k word : ℕ) → k < n → bytes_of (n - k) word ≡ word % 256 ∷ bytes_of (n - (k + 1)) (word / 256)
+-- a word's bytes, as the library has them: those from byte i on are the bytes of the word without its first i
+bytes_from : (i n word : ℕ) → bytes_low_first i n word ≡ bytes_of n (word / 256 ^ i)
 unfolding bytes_of
-bytes_next n k word h =
-    let e : n - k ≡ suc (n - (k + 1)) = omega arith in
-    rw e
+bytes_from i zero word = refl
+bytes_from i (suc n) word = ap₂ (λ (b : ℕ) (l : List ℕ). b ∷ l) (byte_is i) (bytes_from (suc i) n word ∙ ap (bytes_of n) next)
+  where
+    byte_is : (i : ℕ) → byte_at i word ≡ word / 256 ^ i % 256
+    byte_is zero = omega arith
+    byte_is (suc i) = refl
 
-pub bytes_none : (n k word : ℕ) → n ≤ k → bytes_of (n - k) word ≡ []
-unfolding bytes_of
-bytes_none n k word h = let z : n - k ≡ 0 = omega arith in rw z
+    next : word / 256 ^ suc i ≡ word / 256 ^ i / 256
+    next = simp unary_clauses (sym (div-div-eq-div-mul word (256 ^ i) 256))
+
+pub low_bytes : (word : ℕ) → to_le_bytes w64 word ≡ bytes_of octet_length word
+low_bytes word = let e : word / 256 ^ 0 ≡ word = omega arith in bytes_from 0 8 word ∙ ap (bytes_of octet_length) e
 
 -- the bytes of an octet's word are the octet's bits
 count_at : (i n k : ℕ) → k < n → get_or (count_from i n) k 0 ≡ i + k
@@ -52,59 +62,50 @@ module _ (octets masks : List ℕ) (i : ℕ) where
   unfolding masked
   masked-next inside fewer = rw (drop-next octets i inside, drop-next masks i (omega arith))
 
-  pub octets_next : {out₀ ws out : List ℕ} {at : ℕ} (new bytes : List ℕ) → i < length octets → length octets ≤ length masks
-      → bytes ≡ bits_of octet_length (bit_xor (get_or octets i 0) (get_or masks i 0)) → new ≡ sets out (at + octet_length * i) bytes
+  pub octets_next : {out₀ ws out : List ℕ} {at : ℕ} (k : ℕ) (bytes : List ℕ) → i < length octets → length octets ≤ length masks
+      → at + octet_length * length octets ≤ length out → k ≡ octet_length → bytes ≡ bits_of octet_length (bit_xor (get_or octets i 0) (get_or masks i 0))
       → Left out₀ at ws out (at + octet_length * i) (unpacked octet_length (masked (drop i octets) (drop i masks)))
-      → Left out₀ at ws new (at + octet_length * (i + 1)) (unpacked octet_length (masked (drop (i + 1) octets) (drop (i + 1) masks)))
+      → Left out₀ at ws (put_mid (at + octet_length * i) k out bytes) (at + octet_length * (i + 1)) (unpacked octet_length (masked (drop (i + 1) octets) (drop (i + 1) masks)))
   unfolding unpacked
-  octets_next {out₀} {ws} {out} {at} new bytes inside fewer is stored l =
+  octets_next {out₀} {ws} {out} {at} k bytes inside fewer room all is l =
       let octet = bit_xor (get_or octets i 0) (get_or masks i 0) in
-      left-stretch new (bits_of octet_length octet) (unpacked octet_length (masked (drop (i + 1) octets) (drop (i + 1) masks))) (at + octet_length * (i + 1))
-      (rw (masked-next inside fewer)) (rw is at stored) (omega (arith, length-bits octet_length octet)) l
+      let long : length bytes ≡ octet_length = ap length is ∙ length-bits octet_length octet in
+      left-stretch (put_mid (at + octet_length * i) k out bytes) bytes (unpacked octet_length (masked (drop (i + 1) octets) (drop (i + 1) masks))) (at + octet_length * (i + 1))
+      (rw (masked-next inside fewer, is)) (sets_of_part (at + octet_length * i) k out bytes (omega arith) (omega arith)) (omega arith) l
 
   pub octets_none : length octets ≤ i → unpacked octet_length (masked (drop i octets) (drop i masks)) ≡ []
   unfolding masked unpacked
   octets_none past = rw (drop_of_length-le octets past)
 
--- the frame from an octet on, as many octets at a time as there are masks
-module _ (frame masks : List ℕ) (table : Masks masks) (from to : ℕ) (inside : from < length frame) (is : to ≡ min (from + length masks) (length frame)) where
-  abbrev piece : List ℕ
-  piece = take (to - from) (drop from frame)
+-- a chunk of what is left of the frame finds room
+pub chunk-room : {out₀ out : List ℕ} {at n : ℕ} (frame rest chunk next : List ℕ) → rest ≡ chunk ++ next → Left out₀ at (randomized frame) out n (randomized rest)
+    → n + octet_length * length chunk ≤ at + octet_length * length frame
+chunk-room frame rest chunk next parts l = omega (arith, l.count, randomized-length frame, randomized-length rest, ap length parts ∙ length-append chunk next)
 
-  piece_length_lem : length piece ≡ to - from
-  piece_length_lem = length-take-le (to - from) (drop from frame) (simp length-drop (omega arith))
-
-  pub piece-fits : length piece ≤ length masks
-  piece-fits = omega (arith, piece_length_lem)
-
-  parts : drop from frame ≡ piece ++ drop to frame
-  parts =
-      let past : from + (to - from) ≡ to = omega (arith, table.some) in
-      sym (take-append-drop (to - from) (drop from frame)) ∙ ap (λ (l : List ℕ). piece ++ l) (drop-drop (to - from) from frame ∙ ap (λ (n : ℕ). drop n frame) past)
-
-  frame-parts : randomized (drop from frame) ≡ unpacked octet_length (masked piece masks) ++ randomized (drop to frame)
+-- a chunk of the frame, as many octets as there are masks or else all that are left, and what follows it
+module _ (masks : List ℕ) (table : Masks masks) (rest chunk next : List ℕ) (parts : rest ≡ chunk ++ next) (many : length chunk ≡ min (length masks) (length rest)) where
+  chunk-parts : randomized rest ≡ unpacked octet_length (masked chunk masks) ++ randomized next
   unfolding randomized unpacked
-  frame-parts =
-      by_cases (leb (from + length masks) (length frame))
-      (λ t. let whole : length piece ≡ length masks = omega (arith, piece_length_lem, leb-true (from + length masks) (length frame) t) in
-      ap randomized parts ∙ randomized-anew masks table piece (drop to frame) whole ∙ ap (λ (l : List ℕ). l ++ randomized (drop to frame)) (sym (masked-is masks table piece piece-fits)))
-      (λ f. let end : drop to frame ≡ [] = drop_of_length-le frame {i = to} (omega (arith, leb-false (from + length masks) (length frame) f)) in
-      ap randomized (parts ∙ ap (λ (l : List ℕ). piece ++ l) end ∙ append-nil piece)
-      ∙ sym (masked-is masks table piece piece-fits)
-      ∙ sym (append-nil (unpacked octet_length (masked piece masks)))
-      ∙ ap (λ (l : List ℕ). unpacked octet_length (masked piece masks) ++ randomized l) (sym end))
+  chunk-parts =
+      let masked_is = masked-is masks table chunk (omega arith) in
+      let long = ap length parts ∙ length-append chunk next in
+      by_cases (leb (length masks) (length rest))
+      (λ t. ap randomized parts ∙ randomized-anew masks table chunk next (omega (arith, leb-true _ _ t)) ∙ ap (λ (l : List ℕ). l ++ randomized next) (sym masked_is))
+      (λ f. let end : next ≡ [] = drop_of_length-le next {i = 0} (omega (arith, long, leb-false _ _ f)) in
+      ap randomized (parts ∙ ap (λ (l : List ℕ). chunk ++ l) end ∙ append-nil chunk)
+      ∙ sym masked_is
+      ∙ sym (append-nil (unpacked octet_length (masked chunk masks)))
+      ∙ ap (λ (l : List ℕ). unpacked octet_length (masked chunk masks) ++ randomized l) (sym end))
 
-  pub frame-next : {out₀ ws out : List ℕ} {at : ℕ} (new : List ℕ) → new ≡ sets out (at + octet_length * from) (unpacked octet_length (masked piece masks))
-      → Left out₀ at ws out (at + octet_length * from) (randomized (drop from frame))
-      → Left out₀ at ws new (at + octet_length * to) (randomized (drop to frame))
-  frame-next {out₀} {ws} {out} {at} new stored l =
-      let bits = unpacked octet_length (masked piece masks) in
-      let long : length bits ≡ octet_length * (to - from) = masked-long in
-      left-stretch new bits (randomized (drop to frame)) (at + octet_length * to) frame-parts stored (omega (arith, long, table.some)) l
-    where
-      masked-long : length (unpacked octet_length (masked piece masks)) ≡ octet_length * (to - from)
-      masked-long = ap length (masked-is masks table piece piece-fits) ∙ randomized-length piece ∙ ap (λ (n : ℕ). octet_length * n) piece_length_lem
+  pub chunk-next : {out₀ ws out : List ℕ} {at n : ℕ} (new : List ℕ) → new ≡ sets out n (unpacked octet_length (masked chunk masks))
+      → Left out₀ at ws out n (randomized rest)
+      → Left out₀ at ws new (n + octet_length * length chunk) (randomized next)
+  chunk-next {out₀} {ws} {out} {at} {n} new stored l =
+      let bits = unpacked octet_length (masked chunk masks) in
+      let long : length bits ≡ octet_length * length chunk = ap length (masked-is masks table chunk (omega arith)) ∙ randomized-length chunk in
+      left-stretch new bits (randomized next) (n + octet_length * length chunk) chunk-parts stored (omega (arith, long)) l
 
-pub frame-none : (frame : List ℕ) (from : ℕ) → length frame ≤ from → randomized (drop from frame) ≡ []
+pub chunk-none : (rest : List ℕ) → length rest ≡ 0 → randomized rest ≡ []
 unfolding randomized unpacked
-frame-none frame from past = rw (drop_of_length-le frame past)
+chunk-none [] none = refl
+chunk-none (x ∷ rest) none = absurd (omega arith)

@@ -1,10 +1,9 @@
 // Opened to the transfer frames alone: a frame's bits, randomized.
-ghost use Rattle.std.specs.Prelude.{◌≡◌, ◌+◌, ◌*◌, ◌≤◌, ◌<◌, min, length};
-ghost use Rattle.std.specs.Int.Bits.{bit_xor};
+ghost use Rattle.std.specs.Prelude.{◌≡◌, ◌+◌, ◌*◌, ◌≤◌, length};
 ghost use Rattle.std.proofs.lemmas.List.Edits.{sets};
 ghost use Rattle.bits.specs.Words.{unpacked};
 ghost use Rattle.randomizer.specs.Randomizer.{octet_length, randomized};
-ghost use Rattle.randomizer.specs.Tables.{masked, bytes_of, Masks, Spread};
+ghost use Rattle.randomizer.specs.Tables.{masked, Masks, Spread};
 
 // Bits of an octet.
 pub const OCTET_LENGTH: usize = 8;
@@ -14,27 +13,11 @@ pub fn put_frame(frame: &[u8], masks: &[u8], spread: &[u64], out: &mut [u8], at:
     requires { Masks masks.now × Spread spread.now × (at + octet_length * length frame.now ≤ length out.old) }
     ensures { out.new ≡ sets out.old at (randomized frame.now) }
 {
-    let mut from = 0;
-    while from < frame.len() {
-        let to = smaller(from + masks.len(), frame.len());
-        put_octets(
-            &frame[from..to],
-            masks,
-            spread,
-            out,
-            at + OCTET_LENGTH * from,
-        );
-        from = to;
+    let mut next = at;
+    for octets in frame.chunks(masks.len()) {
+        put_octets(octets, masks, spread, out, next);
+        next += OCTET_LENGTH * octets.len();
     }
-}
-
-fn smaller(a: usize, b: usize) -> usize
-    ensures { result ≡ min a b }
-{
-    if a < b {
-        return a;
-    }
-    b
 }
 
 // The bits of octets, no more than there are masks, each masked with its own.
@@ -42,31 +25,10 @@ pub fn put_octets(octets: &[u8], masks: &[u8], spread: &[u64], out: &mut [u8], a
     requires { Spread spread.now × (length octets.now ≤ length masks.now) × (at + octet_length * length octets.now ≤ length out.old) }
     ensures { out.new ≡ sets out.old at (unpacked octet_length (masked octets.now masks.now)) }
 {
-    let mut i = 0;
-    while i < octets.len() {
-        let x = add_mask(octets[i], masks[i]);
-        put_bytes(spread[x], out, at + OCTET_LENGTH * i);
-        i += 1;
-    }
-}
-
-// An octet with its mask added bit by bit.
-fn add_mask(octet: u8, mask: u8) -> usize
-    ensures { (result ≡ bit_xor octet mask) × (result < 256) }
-{
-    (octet ^ mask) as usize
-}
-
-// The eight bytes of a word, the lightest first, from the byte at on. A word that is loaded and stored byte by byte is moved as a whole.
-fn put_bytes(word: u64, out: &mut [u8], at: usize)
-    requires { at + octet_length ≤ length out.old }
-    ensures { out.new ≡ sets out.old at (bytes_of octet_length word) }
-{
-    let mut rest = word;
-    let mut k = 0;
-    while k < OCTET_LENGTH {
-        out[at + k] = (rest % 256) as u8;
-        rest >>= 8;
-        k += 1;
+    // The masks go by their place: of an octet that `zip` gives the proof does not know that it is below 256.
+    for (i, &octet) in octets.iter().enumerate() {
+        let next = at + OCTET_LENGTH * i;
+        let bits = spread[usize::from(octet ^ masks[i])].to_le_bytes();
+        out[next..next + OCTET_LENGTH].copy_from_slice(&bits);
     }
 }

@@ -1,13 +1,10 @@
--- What is left to store at an octet where the masks begin is the rest of the frame, randomized as if it began there.
-use Prim.Native.Nat.{◌+◌, ◌*◌, ◌-◌, ◌≤◌}
-use lib.ListN.{length, drop}
+-- What is left to store before a chunk, where the masks begin, is the rest of the frame, randomized as if it began there.
+use Rattle.std.proofs.Common.{◌≡◌, length}
 use Rattle.bits.proofs.Fill.{Left}
-use Rattle.randomizer.specs.Randomizer.{octet_length, randomized}
+use Rattle.randomizer.specs.Randomizer.{randomized}
 use Rattle.randomizer.proofs.steps.put_frame.Given as goal
 
-abbrev pub invariant-loop-from : goal.invariant-loop-from
-invariant-loop-from l =
-    (l.from ≤ length l.frame) × Left l.initial.out l.at (randomized l.frame) l.out (l.at + octet_length * l.from) (randomized (drop l.from l.frame))
-
-abbrev pub decreases-loop-from : goal.decreases-loop-from
-decreases-loop-from l = length l.frame - l.from
+abbrev pub invariant-loop-octets : goal.invariant-loop-octets
+invariant-loop-octets l =
+    let rest = l.octets-iterator in
+    (rest.size ≡ length l.masks) × Left l.initial.out l.at (randomized l.frame) l.out l.next (randomized rest.rest.now)
