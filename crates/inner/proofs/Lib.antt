@@ -1,6 +1,8 @@
 pub mod Codewords
+pub mod Formats
 pub mod Linear
-pub mod Loaded
 pub mod Reading
 pub mod Registers
+pub mod Runs
+pub mod Tables
 pub mod Turns

@@ -17,12 +17,8 @@ use Rattle.puncture.specs.Puncture.{survives, kept_at, counted, counter_start, c
 use Rattle.puncture.proofs.Matched.{rate_matched-counted}
 use Rattle.coder.specs.Coder.{state_in, turned, stored, finished}
 use Rattle.coder.specs.declared.steps.Coder.{Coder}
-use Rattle.interleaver.specs.Interleaver.{permuted}
-use Rattle.interleaver.specs.Walk.{Walked}
 use Rattle.inner.specs.Left.{starting, reads, upper_from, lower_from, upper_left, lower_left, completed, Fits}
 use Rattle.inner.specs.Registers.{upper, lower, registers, interleaved}
-use Rattle.inner.specs.Lent.{Stands, completes, written}
-use Rattle.inner.specs.declared.steps.Progress.{Progress}
 use Rattle.inner.proofs.Reading.{reads_all, read-end, read-bit}
 use Rattle.inner.proofs.Registers.{Two, two_as, two_put_upper, two_put_lower, two_room-upper, two_room-lower}
 
@@ -111,22 +107,3 @@ module _ (r : Format) (ρ : ℕ → ℕ) (work : List ℕ) where
       let up = ap (λ (l : List ℕ). c.upper + length (upper_from r.survivors ρ i (state_in c) l)) (read-end ρ work r.i i h) in
       let low = ap (λ (l : List ℕ). c.lower + length (lower_from r.i r.delta c.counter (state_in c) l)) (read-end ρ work r.i i h) in
       (omega (arith, up, low, fits.upper-ends, fits.lower-ends, fits.apart), omega (arith, low, fits.lower-ends))
-
--- a run at the first position
-module _ {r : Format} (α β : List ℕ) {work : List ℕ} (at : Progress) (fits : Fits r (permuted α β) work 0 (starting r)) (coder : at.coder ≡ starting r)
-    (position : at.walk.position.0 ≡ 0) where
-  pub stands_start : Walked (length α) at.walk → Stands r α β work at
-  stands_start walked = record { fits = rw (position, coder) fits; walked = walked }
-
-  pub completes_start : (out : List ℕ) → r.delta ≤ r.i → completes r α β work at out ≡ sets out 0 (written r α β work)
-  completes_start out d = rw (position, coder) (completed_start r (permuted α β) work out d fits)
-
--- and at the last
-module _ {r : Format} {α β work : List ℕ} (at : Progress) (stands : Stands r α β work at) (late : r.i ≤ at.walk.position.0) where
-  pub finish_rooms : {room : ℕ} → N1 r ≤ room → (at.coder.upper + 1 < room) × (at.coder.lower + 1 < room)
-  finish_rooms fits =
-      let rooms = end_rooms r (permuted α β) work at.walk.position.0 at.coder late stands.fits in
-      (omega (arith, rooms.0), omega (arith, rooms.1))
-
-  pub completes-end : (out : List ℕ) → completes r α β work at out ≡ finished at.coder out
-  completes-end out = completed-end r (permuted α β) work at.walk.position.0 at.coder out late

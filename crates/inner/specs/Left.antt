@@ -3,7 +3,7 @@ use Rattle.std.specs.Prelude.{◌≡◌, List, ◌++◌, ℕ, ◌+◌, ◌-◌, 
 use Rattle.std.proofs.lemmas.List.Edits.{sets}
 use Rattle.acm.specs.Formats.{N1}
 use Rattle.acm.specs.declared.table.Format.{Format}
-use Rattle.trellis.specs.Trellis.{State, parities, ends, termination}
+use Rattle.trellis.specs.Trellis.{State, zero-state, parities, ends, termination}
 use Rattle.puncture.specs.Puncture.{survives, kept_at, counter_start, counted_from}
 use Rattle.coder.specs.Coder.{state_in}
 use Rattle.coder.specs.declared.steps.Coder.{Coder}
@@ -11,7 +11,7 @@ use Rattle.inner.specs.Registers.{read_from}
 
 -- at the first position: S is where the lower register starts
 abbrev pub starting : Format → Coder
-starting r = record { x0 = 0; x1 = 0; upper = 0; lower = r.s; counter = counter_start r.delta }
+starting r = record { state = zero-state; upper = 0; lower = r.s; counter = counter_start r.delta }
 
 -- what it has yet to read at time i
 abbrev pub reads : (ℕ → ℕ) → List ℕ → ℕ → ℕ → List ℕ

@@ -62,14 +62,6 @@ impl Permutation {
         self.position_in(walk.column, walk.row)
     }
 
-    // W × bank modulo a period, for each sum of a column and a β.
-    pub fn residues(&self, period: usize) -> [u16; BANKS]
-        requires { (0 < period) × (period ≤ M * widest) }
-        ensures { Multiples (length self.now.alpha.now) period result }
-    {
-        multiples(self.rows(), period)
-    }
-
     // A number that leaves what the interleaved position where a walk stands leaves when divided by P; `residues` has W × bank modulo P.
     // It is below P + W.
     pub fn residue_at(&self, residues: &[u16; BANKS], walk: Walk) -> usize
@@ -158,7 +150,7 @@ pub fn held(format: AcmFormat, memory: &[u16], position: UpperPosition) -> Inter
 }
 
 // W × bank modulo a period, for each of the banks, made by adding W.
-fn multiples(w: usize, period: usize) -> [u16; BANKS]
+pub fn multiples(w: usize, period: usize) -> [u16; BANKS]
     requires { (0 < period) × (period ≤ M * widest) }
     ensures { Multiples w period result }
 {

@@ -1,50 +1,37 @@
--- The loop is lent the format's tables, so that what it writes is the format's codeword.
-use mathlib.Core.Path.{◌∙◌}
+-- The run from the first position to the last completes what is left at the start, both registers, and the terminating bits come last.
+use mathlib.Core.Path.{◌≡◌, sym, ap, ◌∙◌}
 use Prim.Native.Nat.{◌≤◌}
 use native.Mathlib.Omega.{arith}
-use lib.ListN.{length-take}
-use Rattle.annex_c.specs.AnnexC.{widest}
-use Rattle.interleaver.proofs.Loaded.{loads, narrow, multiplies}
-use Rattle.inner.proofs.Loaded.{lent_of, fits_start, written_is}
-use Rattle.inner.proofs.steps.encode.Goals.{After-parameters-f}
+use lib.ListN.{length}
+use Rattle.acm.specs.Formats.{format_of, N1}
+use Rattle.acm.specs.declared.table.Format.{Format}
+use Rattle.inner.specs.Left.{starting}
+use Rattle.inner.proofs.Runs.{stands_start, completes_start, completes-end}
+use Rattle.inner.proofs.steps.encode.Goals.{After-start}
 use Rattle.inner.proofs.steps.encode.Goals as goal
 
-fits : (p : After-parameters-f) → p.parameters-f.result.w ≤ widest
-fits p = narrow _ p.requires.0 p.parameters-f.ensures
+module _ (c : After-start) where
+  coder : c.start.result.coder ≡ starting (format_of c.of-parameters.result.format.number)
+  coder = c.start.ensures.0 ∙ ap starting c.of-parameters.result.figures_are
 
-pub load-requires : goal.load-requires
-load-requires c =
-    record {
-      w_value = loads _ c.requires.0 c.parameters-f.ensures;
-      w_in_bounds = fits (goal.at.load-requires c).After-parameters-f;
-      w_in_bounds_2 = fits (goal.at.load-requires c).After-parameters-f;
-    }
-
-pub multiples-starts-requires : goal.multiples-starts-requires
-multiples-starts-requires c =
-    multiplies _ c.requires.0 c.parameters-f.ensures
-
-pub slice_bounds-alpha-end : goal.slice_bounds-alpha-end
-slice_bounds-alpha-end c = omega (arith, fits (goal.at.slice_bounds-alpha-end c).After-parameters-f)
-
-pub slice_bounds-write-end : goal.slice_bounds-write-end
-slice_bounds-write-end c = simp length-take (omega (arith, fits (goal.at.slice_bounds-write-end c).After-parameters-f))
-
-pub slice_bounds-beta-end : goal.slice_bounds-beta-end
-slice_bounds-beta-end c = omega (arith, fits (goal.at.slice_bounds-beta-end c).After-parameters-f)
-
-pub slice_bounds-write-end-2 : goal.slice_bounds-write-end-2
-slice_bounds-write-end-2 c = simp length-take (omega (arith, fits (goal.at.slice_bounds-write-end-2 c).After-parameters-f))
-
-pub write-requires : goal.write-requires
-write-requires c =
-    let is = c.parameters-f.ensures in
-    let l = c.load.ensures in record {
-      lent = lent_of _ c.requires.0 is _ _ l.alpha_after l.beta_after c.multiples-starts.ensures c.multiples-residues.ensures c.laid_out-pattern.ensures c.args.work.now c.args.out.now c.requires.1 c.requires.2;
-      fits = fits_start _ c.requires.0 is _ _ l.alpha_after l.beta_after c.args.work.now;
-    }
+pub advance-end-requires-clause-stands : goal.advance-end-requires-clause-stands
+advance-end-requires-clause-stands c =
+    let p = c.of-parameters.result in
+    let (_, position, walked) = c.start.ensures in (
+      stands_start p c.args.work.now c.start.result (coder (goal.at.advance-end-requires-clause-stands c).After-start) position (walked _),
+      omega arith,
+      omega (arith, ap (λ (r : Format). r.i) p.figures_are),
+    )
 
 pub returns : goal.returns
 returns c =
-    let l = c.load.ensures in
-    c.write.ensures ∙ written_is _ c.requires.0 c.parameters-f.ensures _ _ l.alpha_after l.beta_after c.args.work.now c.args.out.now c.requires.2
+    let p = c.of-parameters.result in
+    let work = c.args.work.now in
+    let out = c.args.out.now in
+    let (stands, position) = c.advance-end.ensures.stands_2 in
+    let room : N1 (format_of p.format.number) ≤ length out = rw c.of-parameters.ensures c.requires.1 in
+    rw (← c.of-parameters.ensures)
+    (c.finish.ensures
+    ∙ sym (completes-end p work c.advance-end.result stands (omega (arith, position, ap (λ (r : Format). r.i) p.figures_are)) _)
+    ∙ c.advance-end.ensures.out_after
+    ∙ completes_start p work c.start.result (coder (goal.at.returns c).After-start) c.start.ensures.1 out room)

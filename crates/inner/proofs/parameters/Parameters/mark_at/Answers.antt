@@ -1,0 +1,40 @@
+-- The residue is one that the pattern laid out has, and its mark is that of the interleaved position.
+use mathlib.Core.Path.{◌≡◌, ap, ◌∙◌}
+use Prim.Native.Nat.{ℕ, ◌*◌, ◌%◌, ◌<◌}
+use native.Mathlib.Omega.{arith}
+use Rattle.interleaver.specs.Interleaver.{π}
+use Rattle.puncture.specs.Puncture.{period}
+use Rattle.puncture.proofs.Laid.{laid_survives}
+use Rattle.puncture.proofs.Zeroed.{pattern-low}
+use Rattle.inner.proofs.Tables.{size, π-is}
+use Rattle.inner.proofs.parameters.Parameters.mark_at.Goals.{After-residue_at-residue}
+use Rattle.inner.proofs.parameters.Parameters.mark_at.Goals as goal
+
+module _ (c : After-residue_at-residue) where
+  abbrev r : ℕ
+  r = c.residue_at-residue.result
+
+  low : r < 3 * period
+  low =
+      let p = c.args.self.now in
+      omega (arith, (c.residue_at-residue.ensures period (omega arith) p.residues_are).1, p.permutation.ranges.narrow)
+
+  leaves : r % period ≡ π c.args.self.now.format.number c.args.walk.position.0 % period
+  leaves =
+      let p = c.args.self.now in
+      (c.residue_at-residue.ensures period (omega arith) p.residues_are).0 ∙ ap (λ (k : ℕ). k % period) (π-is p c.args.walk.position.0)
+
+pub residue_at-residue-requires : goal.residue_at-residue-requires
+residue_at-residue-requires c = (c.requires.0, omega (arith, c.requires.1, size c.args.self.now))
+
+pub bounds-self-residue : goal.bounds-self-residue
+bounds-self-residue c = low (goal.at.bounds-self-residue c).After-residue_at-residue
+
+pub returns-clause-low : goal.returns-clause-low
+returns-clause-low c =
+    rw (c.args.self.now.pattern_is.entry _ (low (goal.at.returns-clause-low c).After-residue_at-residue)) (pattern-low _ _)
+
+pub returns-clause-value : goal.returns-clause-value
+returns-clause-value c =
+    let r = (goal.at.returns-clause-value c).After-residue_at-residue in
+    laid_survives _ _ c.args.self.now.pattern_is _ _ (low r) (leaves r)

@@ -1,0 +1,52 @@
+// What the inner encoder works with in a format.
+ghost use Rattle.std.specs.Prelude.{◌≡◌, ◌≤◌, ◌<◌, length, eqb};
+ghost use Rattle.acm.specs.Formats.{format_of};
+ghost use Rattle.annex_c.specs.AnnexC.{size_of};
+ghost use Rattle.interleaver.specs.Interleaver.{π};
+ghost use Rattle.interleaver.specs.Walk.{Walked, Multiples};
+ghost use Rattle.puncture.specs.Puncture.{period, survives, LaidOut};
+
+use acm::{AcmFormat, Format};
+use interleaver::steps::{BANKS, Permutation, Walk};
+use puncture::{LAID_OUT, PERIOD};
+
+// A format's record, its interleaver, and its puncturing pattern, laid out, in which a position is found by W × bank modulo 300.
+#[derive(Clone, Copy)]
+pub struct Parameters {
+    pub format: AcmFormat,
+    pub figures: Format,
+    pub permutation: Permutation,
+    residues: [u16; BANKS],
+    pattern: [u8; LAID_OUT],
+    ghost figures_are: { figures ≡ format_of format.number },
+    ghost alpha_is: { permutation.alpha.now ≡ (size_of (format_of format.number).w).α },
+    ghost beta_is: { permutation.beta.now ≡ (size_of (format_of format.number).w).β },
+    ghost residues_are: { Multiples (length permutation.alpha.now) period residues },
+    ghost pattern_is: { LaidOut (format_of format.number).survivors pattern },
+}
+
+impl Parameters {
+    // Those of a format.
+    pub fn of(format: AcmFormat) -> Parameters
+        ensures { result.format ≡ format }
+    {
+        let figures = format.record();
+        Parameters {
+            format,
+            figures,
+            permutation: Permutation::of_format(format),
+            residues: interleaver::steps::multiples(figures.w, PERIOD),
+            pattern: puncture::laid_out(figures.survivors),
+        }
+    }
+
+    // The mark of the position that is read where a walk stands: 1 if the upper register keeps its bit, 0 if it is punctured.
+    pub fn mark_at(&self, walk: Walk) -> u8
+        requires { Walked (length self.now.permutation.alpha.now) walk × (walk.position.0 < (format_of self.now.format.number).i) }
+        ensures low { result ≤ 1 }
+        ensures value { eqb result 1 ≡ survives (format_of self.now.format.number).survivors (π self.now.format.number walk.position.0) }
+    {
+        let residue = self.permutation.residue_at(&self.residues, walk);
+        self.pattern[residue]
+    }
+}
