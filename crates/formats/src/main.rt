@@ -2,40 +2,28 @@
 // standard's.
 #![tactic(auto)]
 
+use acm::Format;
 use interleaver::Source;
 use std::io;
 
 fn main(rt: HostRuntime) -> io::Result<()> {
     println!(rt; "format,m,K,I,W,N")?;
-    let mut format: u64 = 1;
-    while format <= acm::LAST {
-        print_line(&rt, format)?;
-        // A warning that cannot be written keeps no line back.
-        let _ = warn(&rt, format);
-        format += 1;
+    for number in 1..=acm::LAST {
+        if let Ok(format) = acm::lookup(number) {
+            print_line(&rt, format)?;
+            // A warning that cannot be written keeps no line back.
+            let _ = warn(&rt, number);
+        }
     }
     Ok(())
 }
 
-fn print_line(rt: &impl Print, format: u64) -> io::Result<()> {
-    let acm::Found::Record(f) = acm::lookup(format) else {
-        return Ok(());
-    };
-    rt.print(f.number)?;
-    print_field(rt, f.m)?;
-    print_field(rt, f.k)?;
-    print_field(rt, f.i)?;
-    print_field(rt, f.w)?;
-    print_field(rt, f.n)?;
-    println!(rt)
-}
-
-fn print_field(rt: &impl Print, n: usize) -> io::Result<()> {
-    print!(rt; ",{n}")
+fn print_line(rt: &impl Print, f: Format) -> io::Result<()> {
+    println!(rt; "{},{},{},{},{},{}", f.number, f.m, f.k, f.i, f.w, f.n)
 }
 
 fn warn(rt: &impl Eprint, format: u64) -> io::Result<()> {
-    let Source::StandIn = interleaver::provenance(format) else {
+    let Ok(Source::StandIn) = interleaver::provenance(format) else {
         return Ok(());
     };
     eprintln!(rt;
