@@ -52,6 +52,11 @@ module _ (f : ℕ) (h : is_format f ≡ true) where
     pub outer-long : length (outer (trellis_part f block)) ≡ (format_of f).i
     outer-long = omega (arith, outer-length (trellis_part f block) part-even, part-long, (format-sound f h).outer)
 
+    -- the workspace as it is written, by the record at hand
+    pub work-written : (work : List ℕ) {r : Format} → r ≡ format_of f
+        → outer (take r.k1 block) ++ drop (length (outer (take r.k1 block))) work ≡ outer (trellis_part f block) ++ drop (format_of f).i work
+    work-written work is = rw (is, outer-long)
+
     -- its pieces, and their codewords
     pub hard-long : length (hard_part f block) ≡ piece_length * hard_bits (format_of f)
     hard-long = length-drop (format_of f).k1 block ∙ omega (arith, (format-sound f h).split, (format-sound f h).pieces)

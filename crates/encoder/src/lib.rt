@@ -1,10 +1,13 @@
 // The SCCC encoder (4): from an information block to a codeword, and from a codeword to labels.
 #![tactic(auto)]
 
-ghost use Rattle.std.specs.Prelude.{◌≡◌, length};
+ghost use Rattle.std.specs.Prelude.{◌≡◌, [], ◌∷◌, ℕ, eqb, length, IfOk};
+ghost use Rattle.bits.specs.Checks.{◌or_else◌, first_failed, number_of, bad_length, bad_element};
+ghost use Rattle.bits.specs.Legal.{all_bits};
 ghost use Rattle.encoder.specs.Calls.{encode_number, encode_workspace, encode_output, labels_number, labels_output};
 
-use bits::checks;
+use acm::AcmFormat;
+use bits::Refusal;
 
 pub mod steps;
 
@@ -12,78 +15,78 @@ pub mod steps;
 // Checks: 1; 2, the block has K bits; 3, each is 0 or 1; 4, the workspace has at least I bytes; 5, the output has at least N bytes.
 // Afterwards the first I bytes of work are the outer kept bits before interleaving, the first N bytes of out are the codeword, and the
 // others are as they were; on refusal all are.
-pub fn encode(format: u64, block: &[u8], work: &mut [u8], out: &mut [u8]) -> u8
-    ensures number { result ≡ encode_number format block.now (length work.old) (length out.old) }
+pub fn encode(format: u64, block: &[u8], work: &mut [u8], out: &mut [u8]) -> Result<(), Refusal>
+    ensures number { number_of result ≡ encode_number format block.now (length work.old) (length out.old) }
     ensures workspace { work.new ≡ encode_workspace format block.now work.old out.old }
     ensures output { out.new ≡ encode_output format block.now work.old out.old }
 {
-    let number = check_encode(format, block, work.len(), out.len());
-    if number != checks::PASSED {
-        return number;
-    }
+    let format = check_encode(format, block, work.len(), out.len())?;
     // The first K1 bits go through the trellises, the others stand behind them in pieces. These come first, so that nothing else has to be
     // kept while the inner trellis runs.
     steps::put_pieces(format, block, out);
-    let f = acm::steps::parameters(format);
-    let k1 = f.k1;
+    let k1 = format.record().k1;
     trellis::steps::outer(&block[..k1], work);
     inner::steps::encode(format, work, out);
-    checks::PASSED
+    Ok(())
 }
 
-// The number of the first check of encode that fails, 0 if none does.
-pub fn check_encode(format: u64, block: &[u8], work: usize, out: usize) -> u8
-    ensures { result ≡ encode_number format block.now work out }
+// The ACM format of a call of encode that passes its checks.
+pub fn check_encode(
+    format: u64,
+    block: &[u8],
+    work: usize,
+    out: usize,
+) -> Result<AcmFormat, Refusal>
+    ensures number { number_of result ≡ encode_number format block.now work out }
+    ensures format_value { IfOk result (λ f. f.number ≡ format) }
 {
-    let acm::Found::Record(f) = acm::lookup(format) else {
-        return checks::FORMAT;
-    };
-    if block.len() != f.k {
-        return checks::LENGTH;
-    }
-    if !bits::all_at_most(block, 1) {
-        return checks::ELEMENT;
-    }
+    let format = AcmFormat::try_from(format)?;
+    let f = format.record();
+    check_bits(block, f.k)?;
     if work < f.i {
-        return checks::WORKSPACE;
+        return Err(Refusal::Workspace);
     }
     if out < f.n {
-        return checks::OUTPUT;
+        return Err(Refusal::Output);
     }
-    checks::PASSED
+    Ok(format)
 }
 
 // The labels of a codeword: 8,100 numbers of m bits.
 // Checks: 1; 2, the codeword has N bits; 3, each is 0 or 1; 5, the output has at least 8,100 bytes.
 // Afterwards the first 8,100 bytes of out are the labels and the others as they were; on refusal all are.
-pub fn labels(format: u64, codeword: &[u8], out: &mut [u8]) -> u8
-    ensures number { result ≡ labels_number format codeword.now (length out.old) }
+pub fn labels(format: u64, codeword: &[u8], out: &mut [u8]) -> Result<(), Refusal>
+    ensures number { number_of result ≡ labels_number format codeword.now (length out.old) }
     ensures output { out.new ≡ labels_output format codeword.now out.old }
 {
-    let number = check_labels(format, codeword, out.len());
-    if number != checks::PASSED {
-        return number;
-    }
-    let f = acm::steps::parameters(format);
-    mapping::steps::write(f.m, codeword, out);
-    checks::PASSED
+    let format = check_labels(format, codeword, out.len())?;
+    mapping::steps::write(format.record().m, codeword, out);
+    Ok(())
 }
 
-// The number of the first check of labels that fails, 0 if none does.
-fn check_labels(format: u64, codeword: &[u8], room: usize) -> u8
-    ensures { result ≡ labels_number format codeword.now room }
+// The ACM format of a call of labels that passes its checks.
+fn check_labels(format: u64, codeword: &[u8], room: usize) -> Result<AcmFormat, Refusal>
+    ensures number { number_of result ≡ labels_number format codeword.now room }
+    ensures format_value { IfOk result (λ f. f.number ≡ format) }
 {
-    let acm::Found::Record(f) = acm::lookup(format) else {
-        return checks::FORMAT;
-    };
-    if codeword.len() != f.n {
-        return checks::LENGTH;
-    }
-    if !bits::all_at_most(codeword, 1) {
-        return checks::ELEMENT;
-    }
+    let format = AcmFormat::try_from(format)?;
+    check_bits(codeword, format.record().n)?;
     if room < acm::SYMBOLS {
-        return checks::OUTPUT;
+        return Err(Refusal::Output);
     }
-    checks::PASSED
+    Ok(format)
+}
+
+// Whether a list is of so many bits.
+// Checks: 2, its length; 3, each element is 0 or 1.
+fn check_bits(list: &[u8], n: usize) -> Result<(), Refusal>
+    ensures { number_of result ≡ first_failed (eqb (length list.now) n or_else bad_length ∷ all_bits list.now or_else bad_element ∷ []) }
+{
+    if list.len() != n {
+        return Err(Refusal::Length);
+    }
+    if !bits::all_at_most(list, 1) {
+        return Err(Refusal::Element);
+    }
+    Ok(())
 }

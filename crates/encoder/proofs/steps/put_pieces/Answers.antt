@@ -1,5 +1,6 @@
 -- The pieces are the block's bits from K1 on, as many as a label has hard bits, and their codewords begin where the trellis part ends.
 use mathlib.Core.Path.{◌≡◌, sym, ap, ◌∙◌}
+use mathlib.Core.Bool.{true}
 use mathlib.Core.List.{List}
 use Prim.Native.Nat.{ℕ, ◌-◌, ◌*◌, ◌≤◌}
 use native.Mathlib.Omega.{arith}
@@ -7,61 +8,54 @@ use lib.ListN.{length, take, drop, length-drop}
 use lib.Seq.{take_all}
 use Rattle.bits.specs.Legal.{all_bits}
 use Rattle.bits.proofs.Legal.{legal-drop}
-use Rattle.acm.specs.Formats.{symbols, piece_length, format_of, N1, hard_bits}
+use Rattle.acm.specs.Formats.{symbols, piece_length, is_format, format_of, N1, hard_bits}
 use Rattle.acm.specs.declared.table.Format.{Format}
 use Rattle.acm.proofs.Laws.{Sound, format-sound}
 use Rattle.encoder.specs.Codeword.{hard_part}
 use Rattle.encoder.proofs.Codewords.{hard-long}
-use Rattle.encoder.proofs.steps.put_pieces.Goals.{After-parameters-f}
 use Rattle.encoder.proofs.steps.put_pieces.Goals as goal
 
 -- the record at hand is the format's
-module _ (p : After-parameters-f) where
-  abbrev r : Format
-  r = p.parameters-f.result
-
-  abbrev block : List ℕ
-  block = p.args.block.now
-
+module _ (f : ℕ) (known : is_format f ≡ true) {r : Format} (is : r ≡ format_of f) where
   sound : Sound r
-  sound = rw p.parameters-f.ensures (format-sound p.args.format p.requires.0)
+  sound = rw is (format-sound f known)
 
-  long : length block ≡ r.k
-  long = p.requires.1 ∙ ap (λ (r : Format). r.k) (sym p.parameters-f.ensures)
+  k1-fits : (block : List ℕ) → length block ≡ (format_of f).k → r.k1 ≤ length block
+  k1-fits block long = omega (arith, long, ap (λ (r : Format). r.k) is, sound.split)
 
-  k1-fits : r.k1 ≤ length block
-  k1-fits = omega (arith, long, sound.split)
+  part-is : (block : List ℕ) → take (length block - r.k1) (drop r.k1 block) ≡ hard_part f block
+  part-is block = take_all (length block - r.k1) (drop r.k1 block) (rw length-drop (omega arith)) ∙ ap (λ (r : Format). drop r.k1 block) is
 
-  part-is : take (length block - r.k1) (drop r.k1 block) ≡ hard_part p.args.format block
-  part-is =
-      take_all (length block - r.k1) (drop r.k1 block) (rw length-drop (omega arith))
-      ∙ ap (λ (r : Format). drop r.k1 block) p.parameters-f.ensures
+  count-is : r.m - r.soft ≡ hard_bits (format_of f)
+  count-is = ap hard_bits is
 
-  count-is : r.m - r.soft ≡ hard_bits (format_of p.args.format)
-  count-is = ap hard_bits p.parameters-f.ensures
-
-  place_is : r.soft * symbols ≡ N1 (format_of p.args.format)
-  place_is = omega (arith, ap (λ (r : Format). r.soft) p.parameters-f.ensures)
+  place_is : r.soft * symbols ≡ N1 (format_of f)
+  place_is = omega (arith, ap (λ (r : Format). r.soft) is)
 
 pub overflow_sub-f : goal.overflow_sub-f
-overflow_sub-f c = (sound (goal.at.overflow_sub-f c).After-parameters-f).soft-fits
+overflow_sub-f c = (sound _ c.args.format.listed c.record-f.ensures).soft-fits
 
 pub slice_bounds-write-count : goal.slice_bounds-write-count
-slice_bounds-write-count c = k1-fits (goal.at.slice_bounds-write-count c).After-parameters-f
+slice_bounds-write-count c = k1-fits _ c.args.format.listed c.record-f.ensures c.args.block.now c.requires.0
 
 pub slice_bounds-write-start : goal.slice_bounds-write-start
-slice_bounds-write-start c = k1-fits (goal.at.slice_bounds-write-start c).After-parameters-f
+slice_bounds-write-start c = k1-fits _ c.args.format.listed c.record-f.ensures c.args.block.now c.requires.0
 
 pub overflow_mul-f : goal.overflow_mul-f
 overflow_mul-f c =
-    omega (arith, (sound (goal.at.overflow_mul-f c).After-parameters-f).soft-fits, (sound (goal.at.overflow_mul-f c).After-parameters-f).most-m)
+    let s = sound _ c.args.format.listed c.record-f.ensures in
+    omega (arith, s.soft-fits, s.most-m)
 
 pub write-requires : goal.write-requires
 write-requires c =
-    let f = c.args.format in
-    let fits : (format_of f).n ≤ length c.args.out.now = c.requires.3 in
-    let whole = format-sound f c.requires.0 in (
-      ap all_bits (part-is (goal.at.write-requires c).After-parameters-f) ∙ legal-drop 1 (format_of f).k1 (block (goal.at.write-requires c).After-parameters-f) c.requires.2,
-      ap length (part-is (goal.at.write-requires c).After-parameters-f) ∙ hard-long f c.requires.0 (block (goal.at.write-requires c).After-parameters-f) c.requires.1 ∙ ap (λ (n : ℕ). piece_length * n) (sym (count-is (goal.at.write-requires c).After-parameters-f)),
-      omega (arith, count-is (goal.at.write-requires c).After-parameters-f, place_is (goal.at.write-requires c).After-parameters-f, fits, whole.labels, whole.soft-fits),
+    let f = c.args.format.number in
+    let known = c.args.format.listed in
+    let block = c.args.block.now in
+    let is = c.record-f.ensures in
+    let part = part-is f known is block in
+    let count = count-is f known is in
+    let whole = format-sound f known in (
+      ap all_bits part ∙ legal-drop 1 (format_of f).k1 block c.requires.1,
+      ap length part ∙ hard-long f known block c.requires.0 ∙ ap (λ (n : ℕ). piece_length * n) (sym count),
+      omega (arith, count, place_is f known is, c.requires.2, whole.labels, whole.soft-fits),
     )
