@@ -1,11 +1,12 @@
 -- Two label lists held against each other (document 01: the tally; document 02, L2: it counts bits).
-use Rattle.std.specs.Prelude.{Bool, true, false, not, List, [], ◌∷◌, ℕ, suc, ◌+◌, eqb, length, if◌then◌else◌}
-use Rattle.bits.specs.Checks.{Check, ◌or_else◌, first_failed, passed, bad_format, bad_length, bad_element}
+use Rattle.std.specs.Prelude.{Bool, true, false, not, List, [], ◌∷◌, ℕ, suc, ◌+◌, eqb, length, if◌then◌else◌, Result, Ok, Err}
+use Rattle.bits.specs.Checks.{Check, ◌or_else◌, check_number, first_failed, passed, bad_format, bad_length, bad_element}
+use Rattle.bits.specs.declared.checks.Refusal.{Refusal}
 use Rattle.bits.specs.Legal.{all_at_most}
 use Rattle.bits.specs.Words.{bits_of}
 use Rattle.acm.specs.Formats.{symbols, is_format, format_of, top_label}
 use Rattle.compare.specs.declared.Comparison.{Comparison}
-use Rattle.compare.specs.declared.Comparison.TheVariants.{Same, Differ, Refused}
+use Rattle.compare.specs.declared.Comparison.TheVariants.{Same, Differ}
 
 -- the number of places at which two lists of one length differ
 unfoldable pub differing : List ℕ → List ℕ → ℕ
@@ -57,10 +58,10 @@ unequal count first = record { number = passed; same = false; count = count; fir
 abbrev pub refused : ℕ → Answer
 refused number = record { number = number; same = false; count = 0; first = 0 }
 
-abbrev pub answer_of : Comparison → Answer
-answer_of Same = equal
-answer_of (Differ count first) = unequal count first
-answer_of (Refused number) = refused number
+abbrev pub answer_of : Result Comparison Refusal → Answer
+answer_of (Ok Same) = equal
+answer_of (Ok (Differ count first)) = unequal count first
+answer_of (Err refusal) = refused (check_number refusal)
 
 abbrev pub compared : ℕ → List ℕ → List ℕ → Answer
 compared f a b =

@@ -1,61 +1,50 @@
 // Two label lists held against each other (document 01: the tally; document 02, L2: it counts bits).
 #![tactic(auto)]
 
-ghost use Rattle.std.specs.Prelude.{◌≡◌, length};
+ghost use Rattle.std.specs.Prelude.{◌≡◌, ◌==◌, length, not, position};
+ghost use Rattle.std.specs.List.{zip};
+ghost use Rattle.bits.specs.Checks.{number_of};
 ghost use Rattle.acm.specs.Formats.{symbols};
-ghost use Rattle.compare.specs.Comparison.{answer_of, compared, compare_number, apart, differing_bits, first_place};
+ghost use Rattle.compare.specs.Comparison.{answer_of, compared, compare_number, apart, differing_bits};
 
-use acm::SYMBOLS;
-use bits::checks;
+use acm::{AcmFormat, SYMBOLS};
+use bits::Refusal;
 
 // The answer of a comparison.
-#[derive(Drop)]
+#[derive(Clone, Copy, Debug, PartialEq, Eq)]
 pub enum Comparison {
     Same,
     // In how many bits the labels differ, and the first place at which they do, counted from 0.
     Differ { count: usize, first: usize },
-    // The number of the check that failed.
-    Refused(u8),
 }
 
 // Whether two lists of 8,100 labels of a format are the same, and if not, in how many bits they differ and at which place first.
 // Checks: 1; 2, each list has 8,100 labels; 3, each label of either is below 2^m.
-pub fn compare(format: u64, a: &[u8], b: &[u8]) -> Comparison
+pub fn compare(format: u64, a: &[u8], b: &[u8]) -> Result<Comparison, Refusal>
     ensures { answer_of result ≡ compared format a.now b.now }
 {
-    let number = check_compare(format, a, b);
-    if number != checks::PASSED {
-        return Comparison::Refused(number);
-    }
+    check_compare(format, a, b)?;
+    let Some(first) = first_differing(a, b) else {
+        return Ok(Comparison::Same);
+    };
     let count = count_bits(a, b);
-    if count == 0 {
-        return Comparison::Same;
-    }
-    let first = first_differing(a, b);
-    Comparison::Differ { count, first }
+    Ok(Comparison::Differ { count, first })
 }
 
-// The number of the first check of compare that fails, 0 if none does.
-fn check_compare(format: u64, a: &[u8], b: &[u8]) -> u8
-    ensures { result ≡ compare_number format a.now b.now }
+// Whether all checks of compare hold.
+#[tactic(auto, using(std::proofs::lemmas::Bool::Decides::nat_tests), unfolding(crate::specs::Comparison::compare_number))]
+fn check_compare(format: u64, a: &[u8], b: &[u8]) -> Result<(), Refusal>
+    ensures { number_of result ≡ compare_number format a.now b.now }
 {
-    let acm::Found::Record(_) = acm::lookup(format) else {
-        return checks::FORMAT;
-    };
-    if a.len() != SYMBOLS {
-        return checks::LENGTH;
+    let format = AcmFormat::try_from(format)?;
+    if a.len() != SYMBOLS || b.len() != SYMBOLS {
+        return Err(Refusal::Length);
     }
-    if b.len() != SYMBOLS {
-        return checks::LENGTH;
+    let top = format.top_label();
+    if !bits::all_at_most(a, top) || !bits::all_at_most(b, top) {
+        return Err(Refusal::Element);
     }
-    let top = acm::top_label(format);
-    if !bits::all_at_most(a, top) {
-        return checks::ELEMENT;
-    }
-    if !bits::all_at_most(b, top) {
-        return checks::ELEMENT;
-    }
-    checks::PASSED
+    Ok(())
 }
 
 // The bits in which the bytes of two lists differ, added over the places.
@@ -64,10 +53,8 @@ fn count_bits(a: &[u8], b: &[u8]) -> usize
     ensures { result ≡ differing_bits 8 a.now b.now }
 {
     let mut count: u32 = 0;
-    let mut i = 0;
-    while i < a.len() {
-        count += bits_apart(a[i], b[i]);
-        i += 1;
+    for (&x, &y) in a.iter().zip(b) {
+        count += bits_apart(x, y);
     }
     count as usize
 }
@@ -76,23 +63,12 @@ fn count_bits(a: &[u8], b: &[u8]) -> usize
 fn bits_apart(x: u8, y: u8) -> u32
     ensures { result ≡ apart 8 x y }
 {
-    u8::count_ones(x ^ y)
+    (x ^ y).count_ones()
 }
 
-// The first place at which two lists differ, their length if there is none.
-fn first_differing(a: &[u8], b: &[u8]) -> usize
-    requires { length a.now ≡ length b.now }
-    ensures { result ≡ first_place a.now b.now }
+// The first place at which two lists differ.
+fn first_differing(a: &[u8], b: &[u8]) -> Option<usize>
+    ensures { result ≡ position (λ p. not (p.0 == p.1)) (zip a.now b.now) }
 {
-    let mut i = 0;
-    let first = loop {
-        if a.len() <= i {
-            break a.len();
-        }
-        if a[i] != b[i] {
-            break i;
-        }
-        i += 1;
-    };
-    first
+    a.iter().zip(b).position(|(x, y)| x != y)
 }

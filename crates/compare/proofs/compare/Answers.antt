@@ -1,40 +1,37 @@
--- The checks' number decides first, then whether the count is 0; each exit is a case of the definition.
+-- The checks decide first, then whether a place differs; each exit is a case of the definition.
 use mathlib.Core.Path.{◌≡◌, sym, ◌∙◌}
-use native.Mathlib.Omega.{arith}
 use borrow.Author.Tests.{eq-eqb, ne_eqb}
+use lib.ListN.{length}
 use Rattle.bits.specs.Checks.{passed}
-use Rattle.acm.specs.Formats.{format_of}
-use Rattle.compare.specs.Comparison.{compare_number, differing_bits}
+use Rattle.compare.specs.Comparison.{compare_number}
 use Rattle.compare.proofs.Checked.{ComparePassed, compare_passed}
-use Rattle.compare.proofs.Laws.{byte_bits, no_bits}
-use Rattle.compare.proofs.compare.Goals.{After-count_bits-count, Else-number-ne-PASSED}
+use Rattle.compare.proofs.Laws.{byte_bits}
+use Rattle.compare.proofs.Places.{found, not_found}
+use Rattle.compare.proofs.compare.Goals.{In_ok-check_compare}
 use Rattle.compare.proofs.compare.Goals as goal
 
-passes : (c : Else-number-ne-PASSED) → compare_number c.args.format c.args.a.now c.args.b.now ≡ passed
-passes c = sym c.check_compare-number.ensures ∙ c.if-number-ne-PASSED.false
+passes : (c : In_ok-check_compare) → compare_number c.args.format c.args.a.now c.args.b.now ≡ passed
+passes c = sym c.in_ok-check_compare.ensures
 
-fits : (c : Else-number-ne-PASSED) → ComparePassed c.args.format c.args.a.now c.args.b.now
+fits : (c : In_ok-check_compare) → ComparePassed c.args.format c.args.a.now c.args.b.now
 fits c = compare_passed _ _ _ (passes c)
 
--- the bytes' bits are the labels'
-counted : (c : After-count_bits-count)
-    → c.count_bits-count.result ≡ (let a = c.args in differing_bits (format_of a.format).m a.a.now a.b.now)
-counted c = c.count_bits-count.ensures ∙ byte_bits _ _ _ (sym c.check_compare-number.ensures ∙ c.if-number-ne-PASSED.false)
+long : (c : In_ok-check_compare) → length c.args.a.now ≡ length c.args.b.now
+long c = (fits c).long_a ∙ sym (fits c).long_b
+
+pub returns-in_default : goal.returns-in_default
+returns-in_default c =
+    let ok = (goal.at.returns-in_default c).In_ok-check_compare in
+    simp (eq-eqb _ _ (passes ok), eq-eqb _ _ (not_found _ _ (long ok) c.in_default.ensures))
 
 pub count_bits-count-requires : goal.count_bits-count-requires
-count_bits-count-requires c = omega (arith, (fits (goal.at.count_bits-count-requires c).Else-number-ne-PASSED).long_a, (fits (goal.at.count_bits-count-requires c).Else-number-ne-PASSED).long_b)
-
-pub returns-then-count-eq0 : goal.returns-then-count-eq0
-returns-then-count-eq0 c =
-    let p = passes (goal.at.returns-then-count-eq0 c).Else-number-ne-PASSED in
-    simp (eq-eqb _ _ p, eq-eqb _ _ ((no_bits _ _ _ p).0 (sym (counted (goal.at.returns-then-count-eq0 c).After-count_bits-count) ∙ c.if-count-eq0.true)))
-
-pub first_differing-first-requires : goal.first_differing-first-requires
-first_differing-first-requires c =
-    omega (arith, (fits (goal.at.first_differing-first-requires c).Else-number-ne-PASSED).long_a, (fits (goal.at.first_differing-first-requires c).Else-number-ne-PASSED).long_b)
+count_bits-count-requires c =
+    let ok = fits (goal.at.count_bits-count-requires c).In_ok-check_compare in
+    (ok.long_a, ok.long_b)
 
 pub returns : goal.returns
 returns c =
-    let p = passes (goal.at.returns c).Else-number-ne-PASSED in
-    let n = counted (goal.at.returns c).After-count_bits-count in
-    simp (eq-eqb _ _ p, c.first_differing-first.ensures, n, ne_eqb _ _ (λ e. c.if-count-eq0.false (n ∙ (no_bits _ _ _ p).1 e)))
+    let ok = (goal.at.returns c).In_ok-check_compare in
+    let p = passes ok in
+    let first = found _ _ (long ok) _ c.in-Some.ensures in
+    simp (eq-eqb _ _ p, ne_eqb _ _ first.1, first.0, c.count_bits-count.ensures ∙ byte_bits _ _ _ p)
