@@ -1,31 +1,26 @@
--- What a call answers and leaves in each buffer, for each way in which it can end.
+-- What a call that passes answers and leaves in each buffer.
 use mathlib.Core.Path.{◌≡◌, refl, sym, ◌∙◌}
 use mathlib.Core.Bool.{true, false, false≢true}
 use mathlib.Core.List.{List, ◌++◌}
 use Prim.Native.Nat.{ℕ, ◌+◌, ◌-◌, ◌*◌, ◌/◌, ◌%◌, ◌≤◌, ◌<◌}
 use native.Mathlib.Omega.{arith}
-use borrow.Author.Tests.{lt-ltb, le-ltb, ltb-true, ltb-false, eqb-true, eqb-false, ne_eqb}
+use borrow.Author.Tests.{lt-ltb, le-ltb, ltb-true, ltb-false, eqb-true, eqb-false}
 use lib.Dec.{eqb, ltb}
 use lib.ListN.{length, take, drop}
 use lib.Seq.{sets, sets-eq}
-use Rattle.bits.specs.Checks.{passed, bad_format}
+use Rattle.bits.specs.Checks.{passed}
 use Rattle.bits.proofs.Cases.{by_cases}
-use Rattle.acm.specs.Formats.{is_format, format_of}
+use Rattle.acm.specs.Formats.{format_of}
 use Rattle.randomizer.specs.Randomizer.{octet_length}
 use Rattle.transfer.specs.Transfer.{marker_length, sync_marked}
 use Rattle.transfer.proofs.Marked.{marked_length}
 use Rattle.waiting.specs.Waiting.{advanced}
 use Rattle.slicer.specs.declared.Slicer.{Slicer}
 use Rattle.slicer.specs.Calls.{K, without_block, push_number, pushed, push_memory, block_number, BlockAnswer, handed, waits, refused, sliced, block_memory, block_output}
-use Rattle.slicer.specs.Change.{with_format, change_number, changed, yields, refused as refused_look, looked}
+use Rattle.slicer.specs.Change.{change_number, yields, looked}
 use Rattle.slicer.proofs.Checked.{push_passed, frame-fits}
 
 module _ (s : Slicer) (frame memory : List ℕ) where
-  pub push_refused : (push_number s (length frame) memory ≡ passed → ⊥)
-      → (record { number = push_number s (length frame) memory; slicer = s } ≡ pushed s frame memory) × (memory ≡ push_memory s frame memory)
-  unfolding pushed push_memory
-  push_refused n = (rw (ne_eqb _ _ n), rw (ne_eqb _ _ n))
-
   pub push_done : (done : List ℕ) (waiting : ℕ) → push_number s (length frame) memory ≡ passed → done ≡ sets memory s.waiting (sync_marked frame)
       → waiting ≡ s.waiting + marker_length + octet_length * length frame
       → (record { number = passed; slicer = record { format = s.format; octets = length frame; waiting = waiting } } ≡ pushed s frame memory)
@@ -43,15 +38,6 @@ module _ (s : Slicer) (memory out : List ℕ) where
   abbrev pub Ends : BlockAnswer → List ℕ → List ℕ → Type 0
   Ends answer memory' out' =
       (answer ≡ sliced s memory (length out)) × ((memory' ≡ block_memory s memory (length out)) × (out' ≡ block_output s memory out))
-
-  pub block_no_format : is_format s.format ≡ false → Ends (refused bad_format s) memory out
-  unfolding sliced block_number block_memory block_output
-  block_no_format none = (rw none, (rw none, rw none))
-
-  pub block_refused : (block_number s memory (length out) ≡ passed → ⊥)
-      → Ends (refused (block_number s memory (length out)) s) memory out
-  unfolding sliced block_memory block_output
-  block_refused n = (simp (ne_eqb _ _ n), (simp (ne_eqb _ _ n), simp (ne_eqb _ _ n)))
 
   module _ (e : block_number s memory (length out) ≡ passed) where
     pub block_waits_lem : s.waiting < K s → Ends (waits s) memory out
@@ -106,21 +92,7 @@ module _ (s : Slicer) (memory : List ℕ) (room : ℕ) where
       (λ e few b w. false≢true b)
       (λ e enough b w. false≢true w)
 
-module _ (s : Slicer) (f : ℕ) where
-  module _ (n : change_number s f ≡ passed → ⊥) where
-    pub change-refused : record { number = change_number s f; slicer = s } ≡ changed s f
-    unfolding changed
-    change-refused = rw (ne_eqb _ _ n)
-
-    pub look_refused : refused_look (change_number s f) ≡ looked s f
-    unfolding looked
-    look_refused = rw (ne_eqb _ _ n)
-
-  module _ (e : change_number s f ≡ passed) where
-    pub change-done : record { number = passed; slicer = with_format s f } ≡ changed s f
-    unfolding changed
-    change-done = rw e
-
-    pub look_done : (let K = (format_of f).k in yields (s.waiting / K) (s.waiting % K) ≡ looked s f)
-    unfolding looked
-    look_done = rw e
+pub look_done : (s : Slicer) (f : ℕ) → change_number s f ≡ passed
+    → (let K = (format_of f).k in yields (s.waiting / K) (s.waiting % K) ≡ looked s f)
+unfolding looked
+look_done s f e = rw e

@@ -1,13 +1,13 @@
 -- The slicer's calls (000, 3.4; document 02, L1): what each answers, and what it leaves in each buffer.
-use Rattle.std.specs.Prelude.{Bool, true, false, ◌&&◌, ◌||◌, not, List, [], ◌∷◌, ◌++◌, ℕ, ◌+◌, ◌-◌, eqb, leb, ltb, length, take, drop, if◌then◌else◌}
-use Rattle.bits.specs.Checks.{Check, ◌or_else◌, first_failed, passed, bad_format, short_output, bad_frame_length, other_frame_length, block_waits}
+use Rattle.std.specs.Prelude.{Bool, true, false, ◌&&◌, ◌||◌, not, List, [], ◌∷◌, ◌++◌, ℕ, ◌+◌, ◌-◌, eqb, leb, ltb, length, take, drop, if◌then◌else◌, Result, Ok, Err}
+use Rattle.bits.specs.Checks.{Check, ◌or_else◌, first_failed, check_number, passed, bad_format, short_output, bad_frame_length, other_frame_length, block_waits}
+use Rattle.bits.specs.declared.checks.Refusal.{Refusal}
 use Rattle.acm.specs.Formats.{is_format, format_of}
 use Rattle.transfer.specs.Transfer.{sync_marked}
 use Rattle.waiting.specs.Waiting.{waiting_checks, behind, advanced}
 use Rattle.slicer.specs.declared.Slicer.{Slicer}
-use Rattle.slicer.specs.declared.Answer.{Answer}
 use Rattle.slicer.specs.declared.Sliced.{Sliced}
-use Rattle.slicer.specs.declared.Sliced.TheVariants.{Block, Wait, Refused}
+use Rattle.slicer.specs.declared.Sliced.TheVariants.{Block, Wait}
 
 -- octets of the shortest and of the longest transfer frame (004, 3.2.2)
 abbrev pub least_frame : ℕ
@@ -26,6 +26,16 @@ K s = (format_of s.format).k
 -- all frames of a channel are as long as its first, 0 standing for none yet
 abbrev pub fits_channel : ℕ → ℕ → Bool
 fits_channel first octets = eqb first 0 || eqb first octets
+
+-- an answer, as document 02 numbers it: the number of the check that failed, 0 if none did, and the slicer, as it came if one did
+pub record Answer : Type 0 where
+  pub number : ℕ
+  pub slicer : Slicer
+
+-- what a call on a slicer answers
+abbrev pub answer_of : Slicer → Result Slicer Refusal → Answer
+answer_of s (Ok after) = record { number = passed; slicer = after }
+answer_of s (Err refusal) = record { number = check_number refusal; slicer = s }
 
 -- push: a frame of so many octets
 abbrev pub push_checks : Slicer → ℕ → List ℕ → List Check
@@ -83,10 +93,11 @@ waits s = record { number = passed; block = false; wait = true; slicer = s }
 abbrev pub refused : ℕ → Slicer → BlockAnswer
 refused number s = record { number = number; block = false; wait = false; slicer = s }
 
-abbrev pub answer_of : Sliced → BlockAnswer
-answer_of (Block s) = handed s
-answer_of (Wait s) = waits s
-answer_of (Refused a) = refused a.number a.slicer
+-- what a call on a slicer answers
+abbrev pub block_answer_of : Slicer → Result Sliced Refusal → BlockAnswer
+block_answer_of s (Ok (Block after)) = handed after
+block_answer_of s (Ok Wait) = waits s
+block_answer_of s (Err refusal) = refused (check_number refusal) s
 
 unfoldable pub sliced : Slicer → List ℕ → ℕ → BlockAnswer
 sliced s memory room =

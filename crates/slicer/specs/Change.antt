@@ -1,12 +1,12 @@
 -- A change of format between blocks, and the look ahead (document 02, L4). Both read the slicer alone.
-use Rattle.std.specs.Prelude.{◌&&◌, List, [], ◌∷◌, ℕ, ◌/◌, ◌%◌, eqb, leb, if◌then◌else◌}
-use Rattle.bits.specs.Checks.{Check, ◌or_else◌, first_failed, passed, bad_format, bad_length}
+use Rattle.std.specs.Prelude.{◌&&◌, List, [], ◌∷◌, ℕ, ◌/◌, ◌%◌, eqb, leb, if◌then◌else◌, Result, Ok, Err}
+use Rattle.bits.specs.Checks.{Check, ◌or_else◌, first_failed, check_number, passed, bad_format, bad_length}
+use Rattle.bits.specs.declared.checks.Refusal.{Refusal}
 use Rattle.acm.specs.Formats.{is_format, format_of}
 use Rattle.waiting.specs.Waiting.{memory_length}
 use Rattle.slicer.specs.declared.Slicer.{Slicer}
-use Rattle.slicer.specs.declared.Answer.{Answer}
 use Rattle.slicer.specs.declared.Ahead.{Ahead}
-use Rattle.slicer.specs.declared.Ahead.TheVariants.{Yields, Refused}
+use Rattle.slicer.specs.Calls.{Answer}
 
 -- of both calls: format f is commanded, or asked about
 abbrev pub change_checks : Slicer → ℕ → List Check
@@ -39,9 +39,9 @@ yields blocks bits = record { number = passed; blocks = blocks; bits = bits }
 abbrev pub refused : ℕ → LookAnswer
 refused number = record { number = number; blocks = 0; bits = 0 }
 
-abbrev pub answer_of : Ahead → LookAnswer
-answer_of (Yields blocks bits) = yields blocks bits
-answer_of (Refused number) = refused number
+abbrev pub look_answer_of : Result Ahead Refusal → LookAnswer
+look_answer_of (Ok ahead) = yields ahead.blocks ahead.bits
+look_answer_of (Err refusal) = refused (check_number refusal)
 
 -- as often as K bits of format f go into those that wait, and what is left of them
 unfoldable pub looked : Slicer → ℕ → LookAnswer

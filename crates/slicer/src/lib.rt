@@ -2,12 +2,13 @@
 // Between blocks the format may change; a look tells beforehand what that would bring.
 #![tactic(auto)]
 
-ghost use Rattle.std.specs.Prelude.{◌≡◌, true, length};
-ghost use Rattle.acm.specs.Formats.{is_format};
-ghost use Rattle.slicer.specs.Calls.{fresh, K, fits_channel, push_number, pushed, push_memory, block_number, answer_of, sliced, block_memory, block_output};
-ghost use Rattle.slicer.specs.Change.{change_number, changed, answer_of as look_answer_of, looked};
+ghost use Rattle.std.specs.Prelude.{◌≡◌, length, IfOk};
+ghost use Rattle.bits.specs.Checks.{number_of};
+ghost use Rattle.slicer.specs.Calls.{fresh, fits_channel, push_number, answer_of, pushed, push_memory, block_number, block_answer_of, sliced, block_memory, block_output};
+ghost use Rattle.slicer.specs.Change.{change_number, changed, look_answer_of, looked};
 
-use bits::checks;
+use acm::AcmFormat;
+use bits::Refusal;
 use randomizer::steps::OCTET_LENGTH;
 use transfer::steps::MARKER_LENGTH;
 
@@ -16,203 +17,157 @@ const LEAST_FRAME: usize = 223;
 
 const MOST_FRAME: usize = 65536;
 
-// A channel's slicer.
-#[derive(Clone, Copy)]
+// A channel's slicer, as it stands between two calls. A call that is refused leaves the caller the one it had.
+#[derive(Clone, Copy, Debug, PartialEq, Eq)]
 pub struct Slicer {
     pub format: u64,
-    // octets of each of the channel's frames, 0 before the first
+    // octets of each of the channel's frames, 0 before the first: a number and no `Option`, since callers in C keep slicers as numbers
     pub octets: usize,
     // how many bits wait, from byte 0 of the memory on
     pub waiting: usize,
 }
 
-// The number of the check that failed, 0 if none did, and the slicer: as it came, if one did.
-#[derive(Clone, Copy)]
-pub struct Answer {
-    pub number: u8,
-    pub slicer: Slicer,
-}
-
 // The answer of a call for a block.
-#[derive(Clone, Copy)]
+#[derive(Clone, Copy, Debug, PartialEq, Eq)]
 pub enum Sliced {
     // A block is handed out.
     Block(Slicer),
-    // Fewer bits wait than a block has: the slicer as it came.
-    Wait(Slicer),
-    Refused(Answer),
+    // Fewer bits wait than a block has: the slicer is as it came.
+    Wait,
 }
 
-// The answer of a look ahead.
-#[derive(Clone, Copy)]
-pub enum Ahead {
-    // Blocks that the waiting bits yield, and bits that stay.
-    Yields { blocks: usize, bits: usize },
-    // The number of the check that failed.
-    Refused(u8),
+// What a look ahead tells: blocks that the waiting bits yield, and bits that stay.
+#[derive(Clone, Copy, Debug, PartialEq, Eq)]
+pub struct Ahead {
+    pub blocks: usize,
+    pub bits: usize,
 }
 
-// A slicer that has taken no frame. It takes any format; the calls refuse one that there is not.
-pub fn new(format: u64) -> Slicer
-    ensures { result ≡ fresh format }
-{
-    Slicer {
-        format,
-        octets: 0,
-        waiting: 0,
+impl Slicer {
+    // A slicer that has taken no frame. It takes any format; the calls refuse one that there is not.
+    pub fn new(format: u64) -> Slicer
+        ensures { result ≡ fresh format }
+    {
+        Slicer {
+            format,
+            octets: 0,
+            waiting: 0,
+        }
     }
-}
 
-// A transfer frame taken in: its marked and randomized bits stand behind those that wait.
-// Checks: 1; 9, the frame has 223 to 65,536 octets; 10, they are as many as the channel's first frame has; 11, fewer than K bits wait; 2, at
-// most 600,000 wait; 3, each that is there is 0 or 1; 4, the memory has at least 600,000 bytes.
-// Afterwards the bytes behind the bits that now wait are as they were; on refusal all are.
-pub fn push(slicer: Slicer, frame: &[u8], memory: &mut [u8]) -> Answer
-    ensures answer { result ≡ pushed slicer frame.now memory.old }
-    ensures memory { memory.new ≡ push_memory slicer frame.now memory.old }
-{
-    let number = check_push(slicer, frame.len(), memory);
-    if number != checks::PASSED {
-        return Answer { number, slicer };
-    }
-    transfer::steps::put(frame, memory, slicer.waiting);
-    Answer {
-        number: checks::PASSED,
-        slicer: Slicer {
-            format: slicer.format,
+    // A transfer frame taken in: its marked and randomized bits stand behind those that wait.
+    // Checks: 1; 9, the frame has 223 to 65,536 octets; 10, they are as many as the channel's first frame has; 11, fewer than K bits wait; 2, at
+    // most 600,000 wait; 3, each that is there is 0 or 1; 4, the memory has at least 600,000 bytes.
+    // Afterwards the bytes behind the bits that now wait are as they were; on refusal all are.
+    #[tactic(auto, using(std::proofs::lemmas::Bool::Decides::nat_tests, bits::proofs::Refusals::not_passed), unfolding(crate::specs::Calls::pushed, crate::specs::Calls::push_memory))]
+    pub fn push(self, frame: &[u8], memory: &mut [u8]) -> Result<Slicer, Refusal>
+        ensures answer { answer_of self result ≡ pushed self frame.now memory.old }
+        ensures memory { memory.new ≡ push_memory self frame.now memory.old }
+    {
+        self.check_push(frame.len(), memory)?;
+        transfer::steps::put(frame, memory, self.waiting);
+        Ok(Slicer {
             octets: frame.len(),
-            waiting: slicer.waiting + MARKER_LENGTH + OCTET_LENGTH * frame.len(),
-        },
+            waiting: self.waiting + MARKER_LENGTH + OCTET_LENGTH * frame.len(),
+            ..self
+        })
     }
-}
 
-// The number of the first check of push that fails for a frame of so many octets, 0 if none does.
-fn check_push(slicer: Slicer, octets: usize, memory: &[u8]) -> u8
-    ensures { result ≡ push_number slicer octets memory.now }
-{
-    let acm::Found::Record(f) = acm::lookup(slicer.format) else {
-        return checks::FORMAT;
-    };
-    if octets < LEAST_FRAME {
-        return checks::FRAME_LENGTH;
+    // The first check of push that fails for a frame of so many octets.
+    #[tactic(auto, using(std::proofs::lemmas::Bool::Decides::nat_tests), unfolding(crate::specs::Calls::push_number, waiting::specs::Waiting::waiting_number))]
+    fn check_push(self, octets: usize, memory: &[u8]) -> Result<(), Refusal>
+        ensures { number_of result ≡ push_number self octets memory.now }
+    {
+        let format = AcmFormat::try_from(self.format)?;
+        if octets < LEAST_FRAME || MOST_FRAME < octets {
+            return Err(Refusal::FrameLength);
+        }
+        if !fits_channel(self.octets, octets) {
+            return Err(Refusal::ChannelLength);
+        }
+        if format.record().k <= self.waiting {
+            return Err(Refusal::BlockWaits);
+        }
+        waiting::check(self.waiting, memory)
     }
-    if MOST_FRAME < octets {
-        return checks::FRAME_LENGTH;
+
+    // A block taken out: the first K waiting bits to the front of out, and the others to the front of the memory.
+    // Checks: 1; 2, at most 600,000 bits wait; 3, each that is there is 0 or 1; 4, the memory has at least 600,000 bytes; 5, the output has at least
+    // K bytes; and where none fails, "wait" if fewer than K bits wait.
+    // Afterwards the bytes behind the block, and those behind the bits that now wait, are as they were; on refusal and on "wait" all are.
+    #[tactic(auto, using(std::proofs::lemmas::Bool::Decides::nat_tests, bits::proofs::Refusals::not_passed), unfolding(crate::specs::Calls::sliced, crate::specs::Calls::block_memory, crate::specs::Calls::block_output))]
+    pub fn block(self, memory: &mut [u8], out: &mut [u8]) -> Result<Sliced, Refusal>
+        ensures answer { block_answer_of self result ≡ sliced self memory.old (length out.old) }
+        ensures memory { memory.new ≡ block_memory self memory.old (length out.old) }
+        ensures output { out.new ≡ block_output self memory.old out.old }
+    {
+        let k = self.check_block(memory, out.len())?.record().k;
+        if self.waiting < k {
+            return Ok(Sliced::Wait);
+        }
+        out[..k].copy_from_slice(&memory[..k]);
+        memory.copy_within(k..self.waiting, 0);
+        Ok(Sliced::Block(Slicer {
+            waiting: self.waiting - k,
+            ..self
+        }))
     }
-    if !fits_channel(slicer.octets, octets) {
-        return checks::CHANNEL_LENGTH;
+
+    // The slicer's format, if all checks of block hold.
+    #[tactic(auto, using(std::proofs::lemmas::Bool::Decides::nat_tests), unfolding(crate::specs::Calls::block_number, waiting::specs::Waiting::waiting_number))]
+    fn check_block(self, memory: &[u8], room: usize) -> Result<AcmFormat, Refusal>
+        ensures number { number_of result ≡ block_number self memory.now room }
+        ensures same { IfOk result (λ f. f.number ≡ self.format) }
+    {
+        let format = AcmFormat::try_from(self.format)?;
+        waiting::check(self.waiting, memory)?;
+        if room < format.record().k {
+            return Err(Refusal::Output);
+        }
+        Ok(format)
     }
-    if f.k <= slicer.waiting {
-        return checks::BLOCK_WAITS;
+
+    // The format of the blocks that follow. The bits that wait are kept, in order, and so is the frame length.
+    // Checks: 1, of the slicer's format and of the commanded one; 2, at most 600,000 bits wait.
+    #[tactic(auto, using(std::proofs::lemmas::Bool::Decides::nat_tests, bits::proofs::Refusals::not_passed), unfolding(crate::specs::Change::changed))]
+    pub fn change(self, format: u64) -> Result<Slicer, Refusal>
+        ensures { answer_of self result ≡ changed self format }
+    {
+        self.check_change(format)?;
+        Ok(Slicer { format, ..self })
     }
-    waiting::check(slicer.waiting, memory)
+
+    // How many blocks the waiting bits would yield in a format, if it were commanded, and how many bits would stay.
+    // Checks: those of change.
+    #[tactic(auto, using(std::proofs::lemmas::Bool::Decides::nat_tests, bits::proofs::Refusals::not_passed), unfolding(crate::specs::Change::looked))]
+    pub fn look(self, format: u64) -> Result<Ahead, Refusal>
+        ensures { look_answer_of result ≡ looked self format }
+    {
+        let k = self.check_change(format)?.record().k;
+        Ok(Ahead {
+            blocks: self.waiting / k,
+            bits: self.waiting % k,
+        })
+    }
+
+    // The commanded format, if all checks of change, and of look, hold.
+    #[tactic(auto, using(std::proofs::lemmas::Bool::Decides::nat_tests), unfolding(crate::specs::Change::change_number))]
+    fn check_change(self, format: u64) -> Result<AcmFormat, Refusal>
+        ensures number { number_of result ≡ change_number self format }
+        ensures same { IfOk result (λ f. f.number ≡ format) }
+    {
+        AcmFormat::try_from(self.format)?;
+        let format = AcmFormat::try_from(format)?;
+        if waiting::MEMORY < self.waiting {
+            return Err(Refusal::Length);
+        }
+        Ok(format)
+    }
 }
 
 // Whether a frame of so many octets is as long as the channel's first, if there was one.
 fn fits_channel(first: usize, octets: usize) -> bool
     ensures { result ≡ fits_channel first octets }
 {
-    if first == 0 {
-        return true;
-    }
-    first == octets
-}
-
-// A block taken out: the first K waiting bits to the front of out, and the others to the front of the memory.
-// Checks: 1; 2, at most 600,000 bits wait; 3, each that is there is 0 or 1; 4, the memory has at least 600,000 bytes; 5, the output has at least
-// K bytes; and where none fails, "wait" if fewer than K bits wait.
-// Afterwards the bytes behind the block, and those behind the bits that now wait, are as they were; on refusal and on "wait" all are.
-pub fn block(slicer: Slicer, memory: &mut [u8], out: &mut [u8]) -> Sliced
-    ensures answer { answer_of result ≡ sliced slicer memory.old (length out.old) }
-    ensures memory { memory.new ≡ block_memory slicer memory.old (length out.old) }
-    ensures output { out.new ≡ block_output slicer memory.old out.old }
-{
-    let acm::Found::Record(f) = acm::lookup(slicer.format) else {
-        return Sliced::Refused(Answer {
-            number: checks::FORMAT,
-            slicer,
-        });
-    };
-    let k = f.k;
-    let number = check_block(slicer, k, memory, out.len());
-    if number != checks::PASSED {
-        return Sliced::Refused(Answer { number, slicer });
-    }
-    if slicer.waiting < k {
-        return Sliced::Wait(slicer);
-    }
-    let rest = slicer.waiting - k;
-    waiting::steps::copy(k, memory, out);
-    waiting::steps::advance(k, rest, memory);
-    Sliced::Block(Slicer {
-        format: slicer.format,
-        octets: slicer.octets,
-        waiting: rest,
-    })
-}
-
-// The number of the first check of block that fails in a format that there is, 0 if none does: a block has k bits.
-fn check_block(slicer: Slicer, k: usize, memory: &[u8], room: usize) -> u8
-    requires { (is_format slicer.format ≡ true) × (k ≡ K slicer) }
-    ensures { result ≡ block_number slicer memory.now room }
-{
-    let number = waiting::check(slicer.waiting, memory);
-    if number != checks::PASSED {
-        return number;
-    }
-    if room < k {
-        return checks::OUTPUT;
-    }
-    checks::PASSED
-}
-
-// The format of the blocks that follow. The bits that wait are kept, in order, and so is the frame length.
-// Checks: 1, of the slicer's format and of the commanded one; 2, at most 600,000 bits wait.
-pub fn change(slicer: Slicer, format: u64) -> Answer
-    ensures { result ≡ changed slicer format }
-{
-    let number = check_change(slicer, format);
-    if number != checks::PASSED {
-        return Answer { number, slicer };
-    }
-    Answer {
-        number: checks::PASSED,
-        slicer: Slicer {
-            format,
-            octets: slicer.octets,
-            waiting: slicer.waiting,
-        },
-    }
-}
-
-// How many blocks the waiting bits would yield in a format, if it were commanded, and how many bits would stay.
-// Checks: those of change.
-pub fn look(slicer: Slicer, format: u64) -> Ahead
-    ensures { look_answer_of result ≡ looked slicer format }
-{
-    let number = check_change(slicer, format);
-    if number != checks::PASSED {
-        return Ahead::Refused(number);
-    }
-    let f = acm::steps::parameters(format);
-    Ahead::Yields {
-        blocks: slicer.waiting / f.k,
-        bits: slicer.waiting % f.k,
-    }
-}
-
-// The number of the first check of change, and of look, that fails, 0 if none does.
-fn check_change(slicer: Slicer, format: u64) -> u8
-    ensures { result ≡ change_number slicer format }
-{
-    let acm::Found::Record(_) = acm::lookup(slicer.format) else {
-        return checks::FORMAT;
-    };
-    let acm::Found::Record(_) = acm::lookup(format) else {
-        return checks::FORMAT;
-    };
-    if waiting::MEMORY < slicer.waiting {
-        return checks::LENGTH;
-    }
-    checks::PASSED
+    first == 0 || first == octets
 }
