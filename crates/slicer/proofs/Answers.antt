@@ -1,37 +1,18 @@
 -- What a call that passes answers and leaves in each buffer.
-use mathlib.Core.Path.{◌≡◌, refl, sym, ◌∙◌}
+use mathlib.Core.Path.{◌≡◌, refl, sym}
 use mathlib.Core.Bool.{true, false, false≢true}
 use mathlib.Core.List.{List, ◌++◌}
-use Prim.Native.Nat.{ℕ, ◌+◌, ◌-◌, ◌*◌, ◌/◌, ◌%◌, ◌≤◌, ◌<◌}
-use native.Mathlib.Omega.{arith}
+use Prim.Native.Nat.{ℕ, ◌-◌, ◌/◌, ◌%◌, ◌≤◌, ◌<◌}
 use borrow.Author.Tests.{lt-ltb, le-ltb, ltb-true, ltb-false, eqb-true, eqb-false}
 use lib.Dec.{eqb, ltb}
 use lib.ListN.{length, take, drop}
-use lib.Seq.{sets, sets-eq}
 use Rattle.bits.specs.Checks.{passed}
 use Rattle.bits.proofs.Cases.{by_cases}
 use Rattle.acm.specs.Formats.{format_of}
-use Rattle.randomizer.specs.Randomizer.{octet_length}
-use Rattle.transfer.specs.Transfer.{marker_length, sync_marked}
-use Rattle.transfer.proofs.Marked.{marked_length}
 use Rattle.waiting.specs.Waiting.{advanced}
 use Rattle.slicer.specs.declared.Slicer.{Slicer}
-use Rattle.slicer.specs.Calls.{K, without_block, push_number, pushed, push_memory, block_number, BlockAnswer, handed, waits, refused, sliced, block_memory, block_output}
+use Rattle.slicer.specs.Calls.{K, without_block, block_number, BlockAnswer, handed, waits, refused, sliced, block_memory, block_output}
 use Rattle.slicer.specs.Change.{change_number, yields, looked}
-use Rattle.slicer.proofs.Checked.{push_passed, frame-fits}
-
-module _ (s : Slicer) (frame memory : List ℕ) where
-  pub push_done : (done : List ℕ) (waiting : ℕ) → push_number s (length frame) memory ≡ passed → done ≡ sets memory s.waiting (sync_marked frame)
-      → waiting ≡ s.waiting + marker_length + octet_length * length frame
-      → (record { number = passed; slicer = record { format = s.format; octets = length frame; waiting = waiting } } ≡ pushed s frame memory)
-      × (done ≡ push_memory s frame memory)
-  unfolding pushed push_memory
-  push_done done waiting e stored counted =
-      let p = push_passed s (length frame) memory e in
-      let long = marked_length frame in
-      let same : waiting ≡ s.waiting + length (sync_marked frame) = omega (arith, long) in
-      let room : s.waiting + length (sync_marked frame) ≤ length memory = omega (arith, long, frame-fits s (length frame) memory p, p.memory-fits) in
-      (rw (same, e), stored ∙ sets-eq (sync_marked frame) memory s.waiting room ∙ rw e)
 
 module _ (s : Slicer) (memory out : List ℕ) where
   -- answer, memory and output of a call for a block

@@ -1,3 +1,4 @@
 pub mod Answers
+pub mod Calls
 pub mod Checked
 pub mod Exits

@@ -1,6 +1,7 @@
 // The slicer (000, 3.4): transfer frames in, information blocks out. Between the two the bits wait in memory that the caller lends.
 // Between blocks the format may change; a look tells beforehand what that would bring.
-#![tactic(auto)]
+// Each call is proved by opening the definitions that its contract names: no answer is written by hand.
+#![tactic(auto, using(crate::proofs::Calls::calls), unfolding(crate::specs::Calls::push_number, crate::specs::Calls::pushed, crate::specs::Calls::push_memory, crate::specs::Calls::block_number, crate::specs::Calls::sliced, crate::specs::Calls::block_memory, crate::specs::Calls::block_output, crate::specs::Change::change_number, crate::specs::Change::changed, crate::specs::Change::looked, waiting::specs::Waiting::waiting_number))]
 
 ghost use Rattle.std.specs.Prelude.{◌≡◌, length, IfOk};
 ghost use Rattle.bits.specs.Checks.{number_of};
@@ -59,7 +60,6 @@ impl Slicer {
     // Checks: 1; 9, the frame has 223 to 65,536 octets; 10, they are as many as the channel's first frame has; 11, fewer than K bits wait; 2, at
     // most 600,000 wait; 3, each that is there is 0 or 1; 4, the memory has at least 600,000 bytes.
     // Afterwards the bytes behind the bits that now wait are as they were; on refusal all are.
-    #[tactic(auto, using(std::proofs::lemmas::Bool::Decides::nat_tests, bits::proofs::Refusals::not_passed), unfolding(crate::specs::Calls::pushed, crate::specs::Calls::push_memory))]
     pub fn push(self, frame: &[u8], memory: &mut [u8]) -> Result<Slicer, Refusal>
         ensures answer { answer_of self result ≡ pushed self frame.now memory.old }
         ensures memory { memory.new ≡ push_memory self frame.now memory.old }
@@ -74,7 +74,6 @@ impl Slicer {
     }
 
     // The first check of push that fails for a frame of so many octets.
-    #[tactic(auto, using(std::proofs::lemmas::Bool::Decides::nat_tests), unfolding(crate::specs::Calls::push_number, waiting::specs::Waiting::waiting_number))]
     fn check_push(self, octets: usize, memory: &[u8]) -> Result<(), Refusal>
         ensures { number_of result ≡ push_number self octets memory.now }
     {
@@ -95,7 +94,6 @@ impl Slicer {
     // Checks: 1; 2, at most 600,000 bits wait; 3, each that is there is 0 or 1; 4, the memory has at least 600,000 bytes; 5, the output has at least
     // K bytes; and where none fails, "wait" if fewer than K bits wait.
     // Afterwards the bytes behind the block, and those behind the bits that now wait, are as they were; on refusal and on "wait" all are.
-    #[tactic(auto, using(std::proofs::lemmas::Bool::Decides::nat_tests, bits::proofs::Refusals::not_passed), unfolding(crate::specs::Calls::sliced, crate::specs::Calls::block_memory, crate::specs::Calls::block_output))]
     pub fn block(self, memory: &mut [u8], out: &mut [u8]) -> Result<Sliced, Refusal>
         ensures answer { block_answer_of self result ≡ sliced self memory.old (length out.old) }
         ensures memory { memory.new ≡ block_memory self memory.old (length out.old) }
@@ -114,7 +112,6 @@ impl Slicer {
     }
 
     // The slicer's format, if all checks of block hold.
-    #[tactic(auto, using(std::proofs::lemmas::Bool::Decides::nat_tests), unfolding(crate::specs::Calls::block_number, waiting::specs::Waiting::waiting_number))]
     fn check_block(self, memory: &[u8], room: usize) -> Result<AcmFormat, Refusal>
         ensures number { number_of result ≡ block_number self memory.now room }
         ensures same { IfOk result (λ f. f.number ≡ self.format) }
@@ -129,7 +126,6 @@ impl Slicer {
 
     // The format of the blocks that follow. The bits that wait are kept, in order, and so is the frame length.
     // Checks: 1, of the slicer's format and of the commanded one; 2, at most 600,000 bits wait.
-    #[tactic(auto, using(std::proofs::lemmas::Bool::Decides::nat_tests, bits::proofs::Refusals::not_passed), unfolding(crate::specs::Change::changed))]
     pub fn change(self, format: u64) -> Result<Slicer, Refusal>
         ensures { answer_of self result ≡ changed self format }
     {
@@ -139,7 +135,6 @@ impl Slicer {
 
     // How many blocks the waiting bits would yield in a format, if it were commanded, and how many bits would stay.
     // Checks: those of change.
-    #[tactic(auto, using(std::proofs::lemmas::Bool::Decides::nat_tests, bits::proofs::Refusals::not_passed), unfolding(crate::specs::Change::looked))]
     pub fn look(self, format: u64) -> Result<Ahead, Refusal>
         ensures { look_answer_of result ≡ looked self format }
     {
@@ -151,7 +146,6 @@ impl Slicer {
     }
 
     // The commanded format, if all checks of change, and of look, hold.
-    #[tactic(auto, using(std::proofs::lemmas::Bool::Decides::nat_tests), unfolding(crate::specs::Change::change_number))]
     fn check_change(self, format: u64) -> Result<AcmFormat, Refusal>
         ensures number { number_of result ≡ change_number self format }
         ensures same { IfOk result (λ f. f.number ≡ format) }
