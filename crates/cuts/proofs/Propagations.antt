@@ -2,7 +2,7 @@
 use mathlib.Core.Path.{◌≡◌, refl, sym, ap, ◌∙◌}
 use mathlib.Core.Bool.{true}
 use mathlib.Core.List.{List, [], ◌∷◌, ◌++◌, map}
-use Prim.Native.Nat.{ℕ, zero, suc, ◌+◌, ◌-◌, ◌*◌, ◌/◌, ◌%◌, ◌≤◌}
+use Prim.Native.Nat.{ℕ, zero, suc, ◌+◌, ◌-◌, ◌/◌, ◌%◌, ◌≤◌}
 use native.Mathlib.Omega.{arith}
 use borrow.Author.Tests.{leb-true}
 use lib.Dec.{leb}
@@ -14,7 +14,7 @@ use Rattle.bits.proofs.Legal.{legal_head, legal-tail, legal-take, legal-rest}
 use Rattle.bits.proofs.Table.{left-true, right_true}
 use Rattle.trellis.specs.Trellis.{State, zero-state, ◌⊕ₛ◌, state_number, state_of, next, ends}
 use Rattle.trellis.proofs.Linear.{ends-sum}
-use Rattle.trellis.proofs.Runs.{ends-append, ends-bits, state_back, end_back}
+use Rattle.trellis.proofs.Runs.{ends-append, ends-bits, end_back}
 use Rattle.cuts.specs.Cuts.{between, segments_from, stops, end_state, end_states, start_states, rises_from, is_inside}
 use Rattle.cuts.specs.Propagation.{propagated, following, worked_from, worked_out}
 
@@ -104,40 +104,8 @@ worked_out_lem bits cuts legal inside =
     (worked_from_lem bits legal 0 cuts (left-true (rises_from 0 cuts) (all_at_most (length bits) cuts) inside)
     (right_true (rises_from 0 cuts) (all_at_most (length bits) cuts) inside))
 
--- the three powers, by the numbers of the states
-module _ (s n : ℕ) (h : s ≤ 3) where
-  by_period : (k : ℕ) → n % 3 ≡ k → state_number (propagated n (state_of s)) ≡ state_number (propagated k (state_of s))
-  by_period k e =
-      ap state_number (propagated-period n (state_of s) (omega arith) (omega arith) ∙ ap (λ (k : ℕ). propagated k (state_of s)) e)
-
-  pub power_none : n % 3 ≡ 0 → s ≡ state_number (propagated n (state_of s))
-  power_none e =
-      let back : s ≡ state_number (state_of s) = omega arith in
-      back ∙ sym (by_period 0 e)
-
-  pub power_once : {sum : ℕ} → n % 3 ≡ 1 → sum ≡ s / 2 ⊕ s % 2 → 2 * (s % 2) + sum ≡ state_number (propagated n (state_of s))
-  power_once e is = rw is (omega (arith, by_period 1 e))
-
-twice : (s : ℕ) → s ≤ 3 → 2 * (s / 2 ⊕ s % 2) + s / 2 ≡ state_number (propagated 2 (state_of s))
-twice zero h = refl
-twice (suc zero) h = refl
-twice (suc (suc zero)) h = refl
-twice (suc (suc (suc zero))) h = refl
-twice (suc (suc (suc (suc s)))) h = absurd (omega arith)
-
-pub power_twice : (s n : ℕ) → s ≤ 3 → {sum : ℕ} → (n % 3 ≡ 0 → ⊥) → (n % 3 ≡ 1 → ⊥) → sum ≡ s / 2 ⊕ s % 2
-    → 2 * sum + s / 2 ≡ state_number (propagated n (state_of s))
-power_twice s n h not_None not-once is =
-    let e : n % 3 ≡ 2 = omega (arith, not_None, not-once) in
-    rw is (twice s h ∙ sym (by_period s n h 2 e))
-
--- the state that follows, from the number t of the one propagated
-propagated-bits : (s n : ℕ) → s ≤ 3 → ((propagated n (state_of s)).0 ≤ 1) × ((propagated n (state_of s)).1 ≤ 1)
-propagated-bits s n h = rw (propagated-zeros n (state_of s)) (ends-bits (state_of s) (replicate n 0) (omega arith) (omega arith))
-
-pub followed : (s n e : ℕ) → s ≤ 3 → {t y0 y1 : ℕ} → t ≡ state_number (propagated n (state_of s)) → y0 ≡ t / 2 ⊕ e / 2 → y1 ≡ t % 2 ⊕ e % 2
-    → (2 * y0 + y1 ≡ state_number (following (state_of s) n e)) × (2 * y0 + y1 ≤ 3)
-followed s n e h {t} {y0} {y1} is first second =
-    let x = propagated n (state_of s) in
-    let back : state_of t ≡ x = ap state_of is ∙ state_back x (propagated-bits s n h).1 in
-    (rw (first, second) (ap (λ (z : State). state_number (z ⊕ₛ state_of e)) back), omega arith)
+-- of a number's bits the lowest two count
+pub low_bits : (x : State) (e : ℕ) → x ⊕ₛ (e / 2 % 2, e % 2) ≡ x ⊕ₛ state_of e
+low_bits x e =
+    let first : x.0 ⊕ e / 2 % 2 ≡ x.0 ⊕ e / 2 = omega arith in
+    rw first

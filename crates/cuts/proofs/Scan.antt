@@ -1,41 +1,48 @@
--- The scan of a list for a cut that falls or is beyond the input.
-use mathlib.Core.Path.{◌≡◌, refl}
-use mathlib.Core.Bool.{Bool, true, false, ◌&&◌}
-use mathlib.Core.List.{List}
-use Prim.Native.Nat.{ℕ, zero, suc, zero-le, ◌+◌, ◌≤◌, ◌<◌}
-use native.Mathlib.Omega.{arith}
+-- What std's scans find in a list of cuts: that it does not fall, and that none is beyond the input.
+use Rattle.std.proofs.Common.{◌≡◌, ℕ, zero, suc, zero-le, ◌+◌, ◌≤◌, ◌<◌, Bool, true, false, List, [], ◌∷◌, length, get_or, replicate, refl, sym, arith, add-one, ◌↔◌}
+use Rattle.std.specs.Prelude.{IsTrue}
+use Rattle.std.specs.Bool.{MatchBool}
+use Rattle.std.specs.List.{All}
+use Rattle.std.specs.List.Sorted.{IsNonDecreasing}
 use borrow.Author.Tests.{le-leb, lt-leb}
 use lib.Dec.{leb}
-use lib.ListN.{length, get_or, drop, replicate, drop_of_length-le}
+use mathlib.Core.Bool.{false≢true}
 use Rattle.bits.specs.Legal.{all_at_most}
-use Rattle.bits.proofs.Legal.{and-false}
-use Rattle.bits.proofs.Lists.{drop-next}
+use Rattle.bits.proofs.Cases.{by_cases}
+use Rattle.bits.proofs.Legal.{and-false, legal_head, legal-tail}
 use Rattle.cuts.specs.Cuts.{rises_from}
 
--- a cut that does neither
-both : (long last cut : ℕ) (r a : Bool) → last ≤ cut → cut ≤ long → ((leb last cut && r) && (leb cut long && a)) ≡ (r && a)
-both long last cut r a up low = rw (le-leb last cut up, le-leb cut long low)
+rising : (from : ℕ) (cuts : List ℕ) → ((k : ℕ) → k < length cuts → get_or (from ∷ cuts) k 0 ≤ get_or cuts k 0) → rises_from from cuts ≡ true
+rising from [] h = refl
+rising from (c ∷ cs) h = rw (le-leb from c (h 0 (omega arith))) (rising c cs (λ k l. h (suc k) (omega arith)))
 
-module _ (long : ℕ) (cuts : List ℕ) (i last : ℕ) where
-  abbrev pub inside_from : Bool
-  inside_from = rises_from last (drop i cuts) && all_at_most long (drop i cuts)
+falling : (from : ℕ) (cuts : List ℕ) (k : ℕ) → k < length cuts → get_or cuts k 0 < get_or (from ∷ cuts) k 0 → rises_from from cuts ≡ false
+falling from [] k h l = absurd (omega arith)
+falling from (c ∷ cs) zero h l = rw (lt-leb from c l) refl
+falling from (c ∷ cs) (suc k) h l = rw (falling c cs k (omega arith) l) (and-false (leb from c))
 
-  pub inside-done : length cuts ≤ i → inside_from ≡ true
-  inside-done h = rw (drop_of_length-le cuts h)
+pub sorted_is : (cuts : List ℕ) (sorted : Bool) → MatchBool sorted (IsNonDecreasing cuts) ((k : ℕ) × (k + 1 < length cuts) × ((d : ℕ) → get_or cuts (k + 1) d < get_or cuts k d))
+    → sorted ≡ rises_from 0 cuts
+sorted_is cuts true h = sym (rising 0 cuts up)
+  where
+    up : (k : ℕ) → k < length cuts → get_or (0 ∷ cuts) k 0 ≤ get_or cuts k 0
+    up zero l = zero-le
+    up (suc k) l = h k (suc k) 0 (omega arith) l
+sorted_is cuts false (k, l, h) = sym (falling 0 cuts (suc k) (omega arith) (rw (add-one k) at (h 0)))
 
-  module _ (h : i < length cuts) where
-    pub inside_falls : get_or cuts i 0 < last → inside_from ≡ false
-    inside_falls down = rw (drop-next cuts i h, lt-leb last (get_or cuts i 0) down)
+all-low : (top : ℕ) (l : List ℕ) → All (λ x. x ≤ top) l → all_at_most top l ≡ true
+all-low top [] h = refl
+all-low top (x ∷ l) h = rw (le-leb x top (h 0 0 (omega arith))) (all-low top l (λ k d s. h (suc k) d (omega arith)))
 
-    pub inside-beyond : last ≤ get_or cuts i 0 → long < get_or cuts i 0 → inside_from ≡ false
-    inside-beyond up out =
-        rw (drop-next cuts i h, le-leb last (get_or cuts i 0) up, lt-leb (get_or cuts i 0) long out)
-        (and-false (rises_from (get_or cuts i 0) (drop (i + 1) cuts)))
+each_low : (top : ℕ) (l : List ℕ) → all_at_most top l ≡ true → All (λ x. x ≤ top) l
+each_low top [] e k d s = absurd (omega arith)
+each_low top (x ∷ l) e zero d s = legal_head top x l e
+each_low top (x ∷ l) e (suc k) d s = each_low top l (legal-tail top x l e) k d (omega arith)
 
-    pub inside-next : last ≤ get_or cuts i 0 → get_or cuts i 0 ≤ long → inside_from ≡ (rises_from (get_or cuts i 0) (drop (i + 1) cuts) && all_at_most long (drop (i + 1) cuts))
-    inside-next up low =
-        rw (drop-next cuts i h)
-        (both long last (get_or cuts i 0) (rises_from (get_or cuts i 0) (drop (i + 1) cuts)) (all_at_most long (drop (i + 1) cuts)) up low)
+pub low_is : (top : ℕ) (l : List ℕ) (low : Bool) → IsTrue low ↔ All (λ x. x ≤ top) l → low ≡ all_at_most top l
+low_is top l true h = sym (all-low top l (h.0 refl))
+low_is top l false h =
+    by_cases (all_at_most top l) (λ t. absurd (false≢true (h.1 (each_low top l t)))) (λ f. sym f)
 
 -- cuts at one place do not fall
 pub rises_repeated : (n c : ℕ) → rises_from 0 (replicate n c) ≡ true

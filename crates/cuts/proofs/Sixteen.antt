@@ -8,8 +8,7 @@ use lib.ListN.{length, get_or, take, drop, replicate, length-replicate, length-a
 use Rattle.bits.specs.Legal.{all_bits}
 use Rattle.bits.proofs.Fill.{Left, left_as, left_start, left_store, left_end}
 use Rattle.bits.proofs.Lists.{drop-next}
-use Rattle.trellis.specs.Trellis.{State, zero-state, state_number, state_of}
-use Rattle.trellis.proofs.Runs.{state_back}
+use Rattle.trellis.specs.Trellis.{State, zero-state, state_number}
 use Rattle.cuts.specs.Cuts.{stops, between, segments_from, end_state, end_states, start_states, most_cuts, most_segments, Cuts, padded, states_of}
 use Rattle.cuts.specs.Propagation.{following, worked_from, worked_out}
 use Rattle.cuts.specs.declared.States.{States}
@@ -32,13 +31,10 @@ pub ended-length : (cuts bits : List ℕ) → length (end_states cuts bits) ≡ 
 ended-length cuts bits = segments-length 0 (stops (length bits) cuts) bits ∙ stops-length (length bits) cuts
 
 -- the starting states that are left to store
-pub worked_turn : (cuts es : List ℕ) (x : State) (j from : ℕ) {to t : ℕ} → j < length cuts → j < length es → to ≡ get_or cuts j 0
-    → t ≡ state_number (following x (to - from) (get_or es j 0))
-    → worked_from x from (drop j cuts) (drop j es) ≡ t ∷ worked_from (state_of t) to (drop (j + 1) cuts) (drop (j + 1) es)
-worked_turn cuts es x j from {to} h k is next =
-    let y = following x (to - from) (get_or es j 0) in
-    rw (drop-next cuts j h, drop-next es j k, ← is, next)
-    (ap (λ (z : State). state_number y ∷ worked_from z to (drop (j + 1) cuts) (drop (j + 1) es)) (sym (state_back y (omega arith))))
+pub worked_turn : (cuts es : List ℕ) (x : State) (j from : ℕ) → j < length cuts → j < length es
+    → (let y = following x (get_or cuts j 0 - from) (get_or es j 0) in
+    worked_from x from (drop j cuts) (drop j es) ≡ state_number y ∷ worked_from y (get_or cuts j 0) (drop (j + 1) cuts) (drop (j + 1) es))
+worked_turn cuts es x j from h k = rw (drop-next cuts j h, drop-next es j k)
 
 pub worked_done : (cuts es : List ℕ) (x : State) (j from : ℕ) → length cuts ≤ j → worked_from x from (drop j cuts) (drop j es) ≡ []
 worked_done cuts es x j from h = rw (drop_of_length-le cuts h)
@@ -102,9 +98,6 @@ module _ (bits cuts : List ℕ) {started : List ℕ} {j : ℕ} (is : started ≡
     (h : j ≤ length cuts) where
   starts_length : length (start_states cuts bits) ≡ length cuts + 1
   starts_length = length-map (0 ∷ cuts) (λ c. end_state (take c bits)) ∙ omega arith
-
-  pub started_inside : j < length started
-  started_inside = rw is (simp (length-append, length-replicate) (omega (arith, starts_length)))
 
   pub started_at : {from : ℕ} → At (stops (length bits) cuts) j from → get_or started j 0 ≡ end_state (take from bits)
   started_at a =

@@ -11,10 +11,18 @@ pub const SEGMENTS: usize = 16;
 
 // For each of the sixteen segments of a trellis, as numbers 2 * x0 + x1: the state in which its run from 00 ends, and its true starting state.
 // Both are 0 past the last segment.
-#[derive(Clone, Copy)]
+#[derive(Clone, Copy, Debug, PartialEq, Eq)]
 pub struct States {
     pub ended: [u8; SEGMENTS],
     pub started: [u8; SEGMENTS],
+}
+
+impl States {
+    // The states of a refusal.
+    pub const NONE: States = States {
+        ended: [0; SEGMENTS],
+        started: [0; SEGMENTS],
+    };
 }
 
 // Whether there are at most fifteen cuts.
@@ -28,18 +36,5 @@ pub fn few(cuts: &[u16]) -> bool
 pub fn inside(long: usize, cuts: &[u16]) -> bool
     ensures { result ≡ is_inside long cuts.now }
 {
-    let mut last = 0;
-    let mut i = 0;
-    while i < cuts.len() {
-        let cut = cuts[i] as usize;
-        if cut < last {
-            return false;
-        }
-        if long < cut {
-            return false;
-        }
-        last = cut;
-        i += 1;
-    }
-    true
+    cuts.is_sorted() && cuts.iter().all(|&cut| usize::from(cut) <= long)
 }

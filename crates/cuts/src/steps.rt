@@ -1,75 +1,43 @@
 // Opened to the segmented encoder alone: where a segment ends, and the starting states.
 ghost use Rattle.std.specs.Prelude.{◌≡◌, true, ◌≤◌, ◌<◌, length, get_or};
-ghost use Rattle.trellis.specs.Trellis.{state_number, state_of};
-ghost use Rattle.cuts.specs.Cuts.{is_few, rises_from, padded, no_states};
-ghost use Rattle.cuts.specs.Propagation.{propagated, following, worked_out};
+ghost use Rattle.cuts.specs.Cuts.{is_few, rises_from, padded};
+ghost use Rattle.cuts.specs.Propagation.{propagated, worked_out};
 
-use crate::{SEGMENTS, States};
+use crate::SEGMENTS;
+use trellis::State;
 
 // Where segment j of an input of so many bits ends: at its cut, or where the input does.
 pub fn stop(cuts: &[u16], j: usize, long: usize) -> usize
     ensures { result ≡ get_or cuts.now j long }
 {
-    if j < cuts.len() {
-        return cuts[j] as usize;
-    }
-    long
+    cuts.get(j).map_or(long, |&cut| usize::from(cut))
 }
 
-// The starting states of the segments between cuts, from the states in which their runs from 00 end. No bit is looked at.
+// The starting states of the segments between cuts, from the states in which their runs from 00 end (6-6). No bit is looked at.
 pub fn starts(cuts: &[u16], ended: &[u8]) -> [u8; SEGMENTS]
     requires { (is_few cuts.now ≡ true) × (rises_from 0 cuts.now ≡ true) × (length cuts.now ≤ length ended.now) }
     ensures { result ≡ padded (worked_out cuts.now ended.now) }
 {
-    let mut started = [0u8; SEGMENTS];
-    let mut state = 0;
+    let mut started = [0; SEGMENTS];
+    let mut state = State::ZERO;
     let mut from = 0;
-    let mut j = 0;
-    while j < cuts.len() {
-        let to = cuts[j] as usize;
-        state = follow(state, to - from, ended[j]);
-        from = to;
-        j += 1;
-        started[j] = state;
+    for (j, &cut) in cuts.iter().enumerate() {
+        let end = State::from_low_bits(ended[j]);
+        state = propagate(state, cut - from).sum(end);
+        started[j + 1] = u8::from(state);
+        from = cut;
     }
     started
 }
 
-// The state that follows: after n bits, over which the run from 00 ends in `end`.
-fn follow(state: u8, n: usize, end: u8) -> u8
-    requires { state ≤ 3 }
-    ensures { (result ≡ state_number (following (state_of state) n end)) × (result ≤ 3) }
+// The state after n bits 0: the step's matrix to the power n, times a state. The powers have period 3 (6-7).
+fn propagate(state: State, n: u16) -> State
+    requires { (state.0 ≤ 1) × (state.1 ≤ 1) }
+    ensures { result ≡ propagated n state }
 {
-    let x = propagate(state, n);
-    let y0 = bits::sum(x / 2, end / 2);
-    let y1 = bits::sum(x % 2, end % 2);
-    2 * y0 + y1
-}
-
-// The step's matrix to the power n, times a state. The powers have period 3 (6-7).
-fn propagate(state: u8, n: usize) -> u8
-    requires { state ≤ 3 }
-    ensures { result ≡ state_number (propagated n (state_of state)) }
-{
-    let x0 = state / 2;
-    let x1 = state % 2;
-    let sum = bits::sum(x0, x1);
-    let power = n % 3;
-    if power == 0 {
-        return state;
+    let mut state = state;
+    for _ in 0..n % 3 {
+        state = state.next(0);
     }
-    if power == 1 {
-        return 2 * x1 + sum;
-    }
-    2 * sum + x0
-}
-
-// The states of a refusal.
-pub fn no_states() -> States
-    ensures { result ≡ no_states }
-{
-    States {
-        ended: [0u8; SEGMENTS],
-        started: [0u8; SEGMENTS],
-    }
+    state
 }
