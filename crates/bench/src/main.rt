@@ -21,17 +21,17 @@ fn main(rt: HostRuntime) -> io::Result<()> {
 
 // Reads until out is full, the input ends or a read fails, and answers how many bytes are at the front of out. So an input that cannot be read
 // counts as empty.
+// A loop over read, since read_exact leaves open how far it came. crates/readings has its twin: this program stands on no crate of the tests.
 fn read_full(rt: &impl Input, out: &mut [u8]) -> usize
     ensures { result ≤ length out.new }
 {
     let mut from = rt.reader();
     let mut done = 0;
     while done < out.len() {
-        let n = from.read(&mut out[done..]).unwrap_or(0);
-        if n == 0 {
-            break;
+        match from.read(&mut out[done..]) {
+            Ok(0) | Err(_) => break,
+            Ok(n) => done += n,
         }
-        done += n;
     }
     done
 }
@@ -45,10 +45,10 @@ fn print(rt: &impl Print, input: &[u8]) -> io::Result<()> {
 
 // A line on standard error if the codeword is not the standard's.
 fn warn(rt: &impl Eprint, input: &[u8]) -> io::Result<()> {
-    let Job::Run { format, pattern: _ } = job_line::parse(input) else {
+    let Ok(Job { format, .. }) = job_line::parse(input) else {
         return Ok(());
     };
-    let Source::StandIn = interleaver::provenance(format) else {
+    let Ok(Source::StandIn) = interleaver::provenance(format) else {
         return Ok(());
     };
     eprintln!(rt;

@@ -1,5 +1,5 @@
 -- The output of a text: no output is longer than the buffer, and a text that is too long for a line need not be read to its end.
-use mathlib.Core.Path.{◌≡◌, sym, ap, ap₂, ◌∙◌}
+use mathlib.Core.Path.{◌≡◌, sym, ap, ◌∙◌}
 use mathlib.Core.Bool.{true}
 use mathlib.Core.List.{List, [], ◌∷◌, ◌++◌}
 use Prim.Native.Nat.{ℕ, ◌+◌, ◌≤◌, ◌<◌}
@@ -16,6 +16,7 @@ use Rattle.encoder.specs.Codeword.{codeword}
 use Rattle.encoder.proofs.Codewords.{codeword-length}
 use Rattle.ascii.specs.Text.{separator, decimal, line}
 use Rattle.ascii.proofs.Decimal.{decimal-length}
+use Rattle.row.specs.declared.steps.Row.{Row}
 use Rattle.row.specs.Row.{block, row_of}
 use Rattle.row.proofs.Rows.{block-length, ones-most}
 use Rattle.job_line.specs.Line.{longest_line, is_line, format_in, pattern_in}
@@ -48,9 +49,9 @@ unfolding refusal_text
 refusal_length n h = omega (arith, number-length n [] (omega arith))
 
 -- the two outputs
-pub output_row : (text : List ℕ) {f p : ℕ} → job_number text ≡ passed → f ≡ format_in text → p ≡ pattern_in text → row_text (row_of f p) ≡ output text
+pub output_row : (text : List ℕ) {r : Row} → job_number text ≡ passed → r ≡ row_of (format_in text) (pattern_in text) → row_text r ≡ output text
 unfolding output
-output_row text e ef ep = rw (eq-eqb _ _ e) (ap row_text (ap₂ row_of ef ep))
+output_row text e is = rw (eq-eqb _ _ e) (ap row_text is)
 
 pub output_refusal : (text : List ℕ) {n : ℕ} → job_number text ≡ n → (n ≡ passed → ⊥) → refusal_text n ≡ output text
 unfolding output

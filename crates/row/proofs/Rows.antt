@@ -1,20 +1,24 @@
 -- The block of a pattern has K bits, and the ones of a list are no more than its elements.
-use mathlib.Core.Path.{◌≡◌, refl, sym, subst, ◌∙◌}
+use mathlib.Core.Path.{◌≡◌, refl, ap, ◌∙◌}
 use mathlib.Core.Bool.{true}
-use mathlib.Core.List.{List, [], ◌∷◌}
+use mathlib.Core.List.{List, [], ◌∷◌, ◌++◌}
 use Prim.Native.Nat.{ℕ, zero, suc, ◌+◌, ◌≤◌, ◌<◌}
 use native.Mathlib.Omega.{arith}
 use borrow.Author.Tests.{le-leb, eq-eqb, ne_eqb}
 use lib.Dec.{eqb}
-use lib.ListN.{length, get_or, take, drop, set, replicate, length-replicate, length-set, drop_of_length-le}
-use lib.Seq.{take_at}
-use Rattle.bits.specs.Checks.{passed}
+use lib.ListN.{length, take, drop, set, replicate, length-replicate, length-set}
+use lib.Seq.{length-take-le, take_at}
+use Rattle.std.specs.Prelude.{cond, count_by, ◌==◌, Result, Ok, Err, IsOk}
+use Rattle.std.proofs.lemmas.List.Sums.{sum_by-cons}
+use Rattle.bits.specs.Checks.{number_of, passed}
+use Rattle.bits.specs.declared.checks.Refusal.{Refusal}
 use Rattle.bits.specs.Legal.{all_bits}
 use Rattle.bits.proofs.Cases.{by_cases}
 use Rattle.bits.proofs.Legal.{legal_repeated}
-use Rattle.bits.proofs.Lists.{drop-next}
+use Rattle.bits.proofs.Refusals.{not_passed}
 use Rattle.acm.specs.Formats.{is_format, format_of}
 use Rattle.acm.specs.declared.table.Format.{Format}
+use Rattle.acm.proofs.Laws.{within}
 use Rattle.encoder.specs.Calls.{encode_number, encode_output}
 use Rattle.encoder.specs.Codeword.{codeword}
 use Rattle.encoder.proofs.Codewords.{codeword-length}
@@ -61,30 +65,38 @@ ones-most [] = omega arith
 ones-most (b ∷ bits) =
     by_cases (eqb b 1) (λ t. rw t (omega (arith, ones-most bits))) (λ f. rw f (omega (arith, ones-most bits)))
 
--- one more bit
-module _ (bits : List ℕ) (i : ℕ) (h : i < length bits) where
-  pub ones_here : get_or bits i 0 ≡ 1 → ones (drop i bits) ≡ 1 + ones (drop (i + 1) bits)
-  unfolding ones
-  ones_here e = rw (drop-next bits i h, eq-eqb _ _ e)
-
-  pub ones_later : (get_or bits i 0 ≡ 1 → ⊥) → ones (drop i bits) ≡ ones (drop (i + 1) bits)
-  unfolding ones
-  ones_later e = rw (drop-next bits i h, ne_eqb _ _ e) (omega arith)
-
-pub ones-end : (bits : List ℕ) (i : ℕ) → length bits ≤ i → ones (drop i bits) ≡ 0
+-- they are as many as std counts
+pub ones-counted : (bits : List ℕ) → count_by (λ b. b == 1) bits ≡ ones bits
 unfolding ones
-ones-end bits i h = rw (drop_of_length-le bits)
+ones-counted [] = refl
+ones-counted (b ∷ bits) =
+    sum_by-cons (λ c. cond (c == 1) 1 0) b bits ∙ ap (λ (n : ℕ). cond (b == 1) 1 0 + n) (ones-counted bits)
 
--- a pattern's block is encoded, in memory that is long enough
-module _ (f : ℕ) (h : is_format f ≡ true) (p : ℕ) (work out : List ℕ) where
-  fits : (room : (format_of f).i ≤ length work) (room' : (format_of f).n ≤ length out) → encode_number f (block p (format_of f).k) (length work) (length out) ≡ passed
+-- a pattern's block is put to the front of memory that may be longer
+module _ (f : ℕ) (memory : List ℕ) (room : (format_of f).k ≤ length memory) {r : Format} (is : r ≡ format_of f) where
+  pub some-room : is_format f ≡ true → 0 < length (take r.k memory)
+  some-room h = rw (is, length-take-le (format_of f).k memory room) (within f h).some
+
+  pub block-put : (p : ℕ) {filled : List ℕ} → filled ≡ block p (length (take r.k memory)) → take r.k (filled ++ drop r.k memory) ≡ block p (format_of f).k
+  block-put p {filled} put =
+      let here : filled ≡ block p (format_of f).k = put ∙ rw (is, length-take-le (format_of f).k memory room) in
+      rw (is, here) (take_at _ _ _ (block-length p (format_of f).k))
+
+-- and is encoded, in memory that is long enough
+module _ (f : ℕ) (h : is_format f ≡ true) (p : ℕ) (work out lent : List ℕ) (work-room : (format_of f).i ≤ length work) (out-room : (format_of f).n ≤ length out)
+    (put : lent ≡ block p (format_of f).k) where
+  passes : encode_number f lent (length work) (length out) ≡ passed
   unfolding encode_number
-  fits room room' = rw (h, eq-eqb _ _ (block-length p (format_of f).k), block-bits p (format_of f).k, le-leb _ _ room, le-leb _ _ room')
+  passes =
+      rw (put, h, eq-eqb _ _ (block-length p (format_of f).k), block-bits p (format_of f).k, le-leb _ _ work-room, le-leb _ _ out-room)
 
-  pub encoded : {r : Format} → r ≡ format_of f → r.i ≤ length work → r.n ≤ length out → take r.n (encode_output f (block p r.k) work out) ≡ codeword f (block p r.k)
+  pub answer-ok : (answer : Result Unit Refusal) → number_of answer ≡ encode_number f lent (length work) (length out) → IsOk answer
+  answer-ok (Ok done) e = refl
+  answer-ok (Err refusal) e = absurd (not_passed refusal (e ∙ passes))
+
+  pub ones-of_output : {output : List ℕ} {n : ℕ} → output ≡ encode_output f lent work out → n ≡ (format_of f).n
+      → count_by (λ b. b == 1) (take n output) ≡ ones (codeword f (block p (format_of f).k))
   unfolding encode_output
-  encoded is =
-      subst
-      (λ (r : Format). r.i ≤ length work → r.n ≤ length out → take r.n (encode_output f (block p r.k) work out) ≡ codeword f (block p r.k))
-      (sym is)
-      (λ room room'. rw (eq-eqb _ _ (fits room room')) (take_at _ _ _ (codeword-length f h (block p (format_of f).k) (block-length p (format_of f).k))))
+  ones-of_output {output} {n} e is =
+      let code : take n output ≡ codeword f (block p (format_of f).k) = rw (is, e, eq-eqb _ _ passes, put) (take_at _ _ _ (codeword-length f h (block p (format_of f).k) (block-length p (format_of f).k))) in
+      ones-counted (take n output) ∙ ap ones code

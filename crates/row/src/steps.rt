@@ -1,8 +1,10 @@
 // The row of a job (document 01). Opened to the layers above alone.
-ghost use Rattle.std.specs.Prelude.{◌≡◌, true, ◌≤◌, ◌<◌, length, replicate};
-ghost use Rattle.acm.specs.Formats.{is_format, format_of};
+ghost use Rattle.std.specs.Prelude.{◌≡◌, ◌≤◌, ◌<◌, ◌==◌, length, count_by};
+ghost use Rattle.acm.specs.Formats.{format_of};
 ghost use Rattle.encoder.specs.Codeword.{codeword as codeword_of};
 ghost use Rattle.row.specs.Row.{block as block_of, ones, row_of};
+
+use acm::AcmFormat;
 
 // The patterns (document 01).
 const ALL_ZEROS: u64 = 0;
@@ -10,7 +12,7 @@ const ALL_ZEROS: u64 = 0;
 const ALL_ONES: u64 = 1;
 
 // A row: the format, its K, I and N, and the number of ones in the codeword.
-#[derive(Clone, Copy)]
+#[derive(Clone, Copy, Debug, PartialEq, Eq)]
 pub struct Row {
     pub format: u64,
     pub k: usize,
@@ -19,15 +21,14 @@ pub struct Row {
     pub ones: usize,
 }
 
-// The row of a format and a pattern.
-pub fn make(format: u64, pattern: u64) -> Row
-    requires { is_format format ≡ true }
-    ensures { result ≡ row_of format pattern }
+// The row of a format and a pattern. Any number is taken, and each above 1 as 2: which patterns there are is the job line's to check.
+pub fn make(format: AcmFormat, pattern: u64) -> Row
+    ensures { result ≡ row_of format.number pattern }
 {
-    let f = acm::steps::parameters(format);
-    let ones = codeword_ones(format, f, pattern);
+    let f = format.record();
+    let ones = codeword_ones(format, pattern);
     Row {
-        format,
+        format: format.number,
         k: f.k,
         i: f.i,
         n: f.n,
@@ -36,33 +37,31 @@ pub fn make(format: u64, pattern: u64) -> Row
 }
 
 // The number of ones in the codeword of a pattern's block.
-fn codeword_ones(format: u64, f: acm::Format, pattern: u64) -> usize
-    requires { (is_format format ≡ true) × (f ≡ format_of format) }
-    ensures { result ≡ ones (codeword_of format (block_of pattern f.k)) }
+fn codeword_ones(format: AcmFormat, pattern: u64) -> usize
+    ensures { result ≡ ones (codeword_of format.number (block_of pattern (format_of format.number).k)) }
 {
-    let mut block = [0u8; acm::MOST_K];
-    let mut work = [0u8; acm::MOST_I];
-    let mut codeword = [0u8; acm::MOST_N];
-    encoded_ones(format, f, pattern, &mut block, &mut work, &mut codeword)
+    let mut block = [0; acm::MOST_K];
+    let mut work = [0; acm::MOST_I];
+    let mut codeword = [0; acm::MOST_N];
+    encoded_ones(format, pattern, &mut block, &mut work, &mut codeword)
 }
 
 // The same, with the memory for the block, the encoder's workspace and the codeword lent.
 fn encoded_ones(
-    format: u64,
-    f: acm::Format,
+    format: AcmFormat,
     pattern: u64,
     block: &mut [u8],
     work: &mut [u8],
     codeword: &mut [u8],
 ) -> usize
-    requires { (is_format format ≡ true) × (f ≡ format_of format) × (f.k ≤ length block.old) × (f.i ≤ length work.old) × (f.n ≤ length codeword.old) }
-    ensures { result ≡ ones (codeword_of format (block_of pattern f.k)) }
+    requires { ((format_of format.number).k ≤ length block.old) × ((format_of format.number).i ≤ length work.old) × ((format_of format.number).n ≤ length codeword.old) }
+    ensures { result ≡ ones (codeword_of format.number (block_of pattern (format_of format.number).k)) }
 {
-    let k = f.k;
-    let n = f.n;
-    put_block(pattern, &mut block[..k]);
-    encoder::encode(format, &block[..k], work, codeword);
-    count_ones(&codeword[..n])
+    let f = format.record();
+    put_block(pattern, &mut block[..f.k]);
+    // No check of this call fails.
+    encoder::encode(format.number, &block[..f.k], work, codeword).unwrap();
+    count_ones(&codeword[..f.n])
 }
 
 // The block of a pattern, to the whole of out.
@@ -70,38 +69,19 @@ fn put_block(pattern: u64, out: &mut [u8])
     requires { 0 < length out.old }
     ensures { out.new ≡ block_of pattern (length out.old) }
 {
-    if pattern == ALL_ONES {
-        fill(1, out);
-        return;
-    }
-    fill(0, out);
-    if pattern != ALL_ZEROS {
-        out[0] = 1;
-    }
-}
-
-// One bit throughout.
-fn fill(bit: u8, out: &mut [u8])
-    ensures { out.new ≡ replicate (length out.old) bit }
-{
-    let mut i = 0;
-    while i < out.len() {
-        out[i] = bit;
-        i += 1;
+    match pattern {
+        ALL_ZEROS => out.fill(0),
+        ALL_ONES => out.fill(1),
+        _ => {
+            out.fill(0);
+            out[0] = 1;
+        }
     }
 }
 
 // The number of ones in a list of bits.
 fn count_ones(bits: &[u8]) -> usize
-    ensures { result ≡ ones bits.now }
+    ensures { result ≡ count_by (λ b. b == 1) bits.now }
 {
-    let mut count: usize = 0;
-    let mut i = 0;
-    while i < bits.len() {
-        if bits[i] == 1 {
-            count += 1;
-        }
-        i += 1;
-    }
-    count
+    bits.iter().filter(|&&b| b == 1).count()
 }
