@@ -13,8 +13,8 @@ use bits::Refusal;
 
 pub mod steps;
 
-// Banks of an interleaver.
-const M: usize = 120;
+// Banks of an interleaver, and columns of its positions.
+pub const M: usize = 120;
 
 // A position in the upper register, i of the standard (document 01: a place in the upper register).
 #[derive(Clone, Copy, Debug, PartialEq, Eq)]

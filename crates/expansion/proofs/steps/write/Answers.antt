@@ -1,35 +1,50 @@
-use Prim.Native.Nat.{◌*◌, ◌-◌, ◌≤◌, ◌<◌}
+use mathlib.Core.Path.{◌≡◌, ap, ◌∙◌}
+use mathlib.Core.List.{List}
+use Prim.Native.Nat.{ℕ, ◌+◌, ◌*◌, ◌<◌}
 use native.Mathlib.Omega.{arith}
 use lib.ListN.{length}
-use Rattle.bits.proofs.Fill.{left-stretch}
 use Rattle.acm.specs.Formats.{M}
 use Rattle.interleaver.specs.Interleaver.{permuted}
-use Rattle.interleaver.specs.Expanded.{expanded_from}
-use Rattle.interleaver.proofs.Expanded.{expanded-length, expanded-split}
-use Rattle.interleaver.proofs.Walks.{walked_row, in_column}
-use Rattle.expansion.proofs.steps.write.Goals.{After-stop-end}
+use Rattle.interleaver.proofs.Laws.{inside, permuted-below}
+use Rattle.expansion.proofs.Entries.{written_start, written_as, written_next, written_end}
+use Rattle.expansion.proofs.steps.write.Goals.{After-number}
 use Rattle.expansion.proofs.steps.write.Goals as goal
 
--- the position is inside the interleaver, and a row of its column is left: so the column ends further on
-further : (e : After-stop-end) → e.loop-walk.walk.position.0 < e.stop-end.result
-further e =
-    let l = e.loop-walk in
-    let inside : l.walk.position.0 < M * length e.args.alpha.now = omega (arith, e.loop-walk-test.true, e.requires.total_value.0) in
-    let column = in_column (length e.args.alpha.now) l.walk l.invariant.1 inside in
-    omega (arith, column.position-is, walked_row (length e.args.alpha.now) l.walk l.invariant.1 inside, e.loop-walk-test.true, e.stop-end.ensures)
+-- the entry that is written, and its position
+module _ (n : After-number) where
+  abbrev α : List ℕ
+  α = n.args.permutation.now.alpha.now
 
-pub loop-walk-preserved : goal.loop-walk-preserved
-loop-walk-preserved c =
-    let w = c.write_column-walk in
-    let at = c.loop-walk.walk in
-    let a = c.args in
-    let ρ = permuted a.alpha.now a.beta.now in
-    let end : c.stop-end.result ≤ a.total = omega (arith, c.stop-end.ensures) in
-    let more = further (goal.at.loop-walk-preserved c).After-stop-end in
-    let i = at.position.0 in (
-      omega (arith, w.ensures.walked_2.1, end),
-      w.ensures.walked_2.0,
-      rw w.ensures.walked_2.1 (left-stretch _ (expanded_from ρ i (c.stop-end.result - i)) _ c.stop-end.result
-          (expanded-split ρ a.total i c.stop-end.result (omega (arith, more)) end) w.ensures.memory_after
-          (omega (arith, more, expanded-length ρ i (c.stop-end.result - i))) c.loop-walk.invariant.2),
-    )
+  abbrev position : ℕ
+  position = length α * n.loop-column.column + n.loop-row.row
+
+  below : position < M * length α
+  below = inside (length α) n.loop-column.column n.loop-row.row (omega arith) n.loop-column-test.true
+
+  entry : n.number.result ≡ permuted α n.args.permutation.now.beta.now position
+  entry = n.number.ensures ∙ n.position_in.ensures
+
+pub loop-column-init : goal.loop-column-init
+loop-column-init c = written_start _ _ _ (omega arith)
+
+pub loop-row-init : goal.loop-row-init
+loop-row-init c = written_as _ _ _ (omega arith) c.loop-column.invariant
+
+pub overflow_cast-memory : goal.overflow_cast-memory
+overflow_cast-memory c =
+    let n = (goal.at.overflow_cast-memory c).After-number in
+    let v = c.args.permutation.now.ranges in
+    omega (arith, entry n, permuted-below _ _ v _ (below n), v.narrow)
+
+pub loop-row-preserved : goal.loop-row-preserved
+loop-row-preserved c =
+    let n = (goal.at.loop-row-preserved c).After-number in
+    rw (c.rows-rows.ensures, entry n) (written_next _ _ _ (below n) (omega arith) c.loop-row.invariant)
+
+pub loop-column-preserved : goal.loop-column-preserved
+loop-column-preserved c = written_as _ _ _ (omega arith) c.loop-row.invariant
+
+pub returns : goal.returns
+returns c =
+    let all : c.loop-column.column ≡ M = omega arith in
+    written_end _ _ _ (omega (arith, ap (λ (k : ℕ). length c.args.permutation.now.alpha.now * k) all)) c.loop-column.invariant

@@ -1,17 +1,19 @@
--- A column goes on past where the last one ended, and what is left to write are the entries from there on.
-use Prim.Native.Nat.{◌-◌, ◌≤◌}
+-- Before each turn the entries of the positions before it are written.
+use Prim.Native.Nat.{◌+◌, ◌*◌}
 use lib.ListN.{length}
-use Rattle.bits.proofs.Fill.{Left}
+use Rattle.acm.specs.Formats.{M}
 use Rattle.interleaver.specs.Interleaver.{permuted}
-use Rattle.interleaver.specs.Walk.{Walked}
-use Rattle.interleaver.specs.Expanded.{expanded_from}
+use Rattle.expansion.proofs.Entries.{Written}
 use Rattle.expansion.proofs.steps.write.Given as goal
 
-abbrev pub invariant-loop-walk : goal.invariant-loop-walk
-invariant-loop-walk l =
-    let ρ = permuted l.alpha l.beta in
-    let i = l.walk.position.0 in
-    (i ≤ l.total) × Walked (length l.alpha) l.walk × Left l.initial.memory 0 (expanded_from ρ 0 l.total) l.memory i (expanded_from ρ i (l.total - i))
+abbrev pub invariant-loop-column : goal.invariant-loop-column
+invariant-loop-column l =
+    let p = l.permutation in
+    let W = length p.alpha.now in
+    Written (permuted p.alpha.now p.beta.now) (M * W) l.fn.memory l.memory (W * l.column)
 
-abbrev pub decreases-loop-walk : goal.decreases-loop-walk
-decreases-loop-walk l = l.total - l.walk.position.0
+abbrev pub invariant-loop-row : goal.invariant-loop-row
+invariant-loop-row l =
+    let p = l.permutation in
+    let W = length p.alpha.now in
+    Written (permuted p.alpha.now p.beta.now) (M * W) l.fn.memory l.memory (W * l.column + l.row)
