@@ -1,37 +1,31 @@
 // Opened to the encoder of two channels alone.
-ghost use Rattle.std.specs.Prelude.{◌≡◌, true, ◌&&◌, map, ◌+◌, ◌*◌, ◌^◌, ◌≤◌, ◌<◌, eqb, length};
+ghost use Rattle.std.specs.Prelude.{◌≡◌, ◌&&◌, map, ◌+◌, ◌*◌, ◌^◌, ◌≤◌, ◌<◌, eqb, length};
 ghost use Rattle.bits.specs.Same.{same};
-ghost use Rattle.acm.specs.Formats.{M, is_format, format_of};
-ghost use Rattle.annex_c.specs.AnnexC.{Vectors};
+ghost use Rattle.acm.specs.Formats.{M, format_of};
 ghost use Rattle.interleaver.specs.Interleaver.{permuted};
-ghost use Rattle.interleaver.specs.Walk.{Multiples};
 ghost use Rattle.interleaver.specs.Expanded.{expanded_from, expands};
 ghost use Rattle.entries.specs.Columns.{column_on};
 
+use acm::AcmFormat;
+use interleaver::steps::Permutation;
+
 // Whether the first I entries of a memory are the expanded interleaver of a format.
-pub fn holds(format: u64, memory: &[u16]) -> bool
-    requires { (is_format format ≡ true) × ((format_of format).i ≤ length memory.now) }
-    ensures { result ≡ expands format memory.now }
+pub fn holds(format: AcmFormat, memory: &[u16]) -> bool
+    requires { (format_of format.number).i ≤ length memory.now }
+    ensures { result ≡ expands format.number memory.now }
 {
-    let f = acm::steps::parameters(format);
-    let w = f.w;
-    let total = f.i;
-    let mut alpha = [0u16; annex_c_tables::steps::WIDEST];
-    let mut beta = [0u8; annex_c_tables::steps::WIDEST];
-    annex_c_tables::steps::load(w, &mut alpha, &mut beta);
-    let starts = interleaver::steps::multiples(w, total);
-    compare(&alpha[..w], &beta[..w], &starts, &memory[..total])
+    let total = format.record().i;
+    compare(&Permutation::of_format(format), &memory[..total])
 }
 
-// Whether I entries are the expanded interleaver of two vectors. One column on an interleaved position is W more, modulo I: so only the first
-// column has to be worked out.
-fn compare(alpha: &[u16], beta: &[u8], starts: &[u16], memory: &[u16]) -> bool
-    requires vectors { Vectors alpha.now beta.now × Multiples (length alpha.now) (M * length alpha.now) starts.now }
-    requires memory_len { length memory.now ≡ M * length alpha.now }
-    ensures { result ≡ same memory.now (expanded_from (permuted alpha.now beta.now) 0 (length memory.now)) }
+// Whether I entries are an expanded interleaver. One column on an interleaved position is W more, modulo I: so only the first column has to be
+// worked out.
+fn compare(permutation: &Permutation, memory: &[u16]) -> bool
+    requires { length memory.now ≡ M * length permutation.now.alpha.now }
+    ensures { result ≡ same memory.now (expanded_from (permuted permutation.now.alpha.now permutation.now.beta.now) 0 (length memory.now)) }
 {
-    let w = alpha.len();
-    if !compare_first(alpha, beta, starts, &memory[..w]) {
+    let w = permutation.rows();
+    if !compare_first(permutation, &memory[..w]) {
         return false;
     }
     let last = memory.len() - w;
@@ -39,19 +33,14 @@ fn compare(alpha: &[u16], beta: &[u8], starts: &[u16], memory: &[u16]) -> bool
 }
 
 // Whether the entries of the first column are.
-fn compare_first(alpha: &[u16], beta: &[u8], starts: &[u16], column: &[u16]) -> bool
-    requires vectors { Vectors alpha.now beta.now × Multiples (length alpha.now) (M * length alpha.now) starts.now }
-    requires column_len { length column.now ≡ length alpha.now }
-    ensures { result ≡ same column.now (expanded_from (permuted alpha.now beta.now) 0 (length column.now)) }
+fn compare_first(permutation: &Permutation, column: &[u16]) -> bool
+    requires { length column.now ≡ length permutation.now.alpha.now }
+    ensures { result ≡ same column.now (expanded_from (permuted permutation.now.alpha.now permutation.now.beta.now) 0 (length column.now)) }
 {
-    let mut walk = interleaver::steps::start();
-    while walk.position.0 < column.len() {
-        let i = walk.position.0;
-        let position = interleaver::steps::interleaved_at(starts, alpha, beta, walk);
-        if column[i] as usize != position.number() {
+    for (row, &entry) in column.iter().enumerate() {
+        if usize::from(entry) != permutation.position_in(0, row).number() {
             return false;
         }
-        walk = interleaver::steps::down(walk);
     }
     true
 }
@@ -63,10 +52,8 @@ fn compare_columns(w: u16, last: u16, before: &[u16], entries: &[u16]) -> bool
     ensures { result ≡ same entries.now (map (column_on w last) before.now) }
 {
     let mut right = true;
-    let mut i = 0;
-    while i < entries.len() {
-        right = agree(right, entries[i], column_on(w, last, before[i]));
-        i += 1;
+    for (i, &entry) in entries.iter().enumerate() {
+        right &= entry == column_on(w, last, before[i]);
     }
     right
 }
@@ -77,17 +64,8 @@ fn column_on(w: u16, last: u16, entry: u16) -> u16
     ensures { result ≡ column_on w last entry }
 {
     if entry < last {
-        return entry + w;
+        entry + w
+    } else {
+        entry - last
     }
-    entry - last
-}
-
-// Whether two entries are the same, and all before them were.
-fn agree(right: bool, a: u16, b: u16) -> bool
-    ensures { result ≡ (right && eqb a b) }
-{
-    if a == b {
-        return right;
-    }
-    false
 }

@@ -2,15 +2,11 @@
 use mathlib.Core.Path.{◌≡◌}
 use mathlib.Core.Bool.{◌&&◌}
 use mathlib.Core.List.{map}
-use Prim.Native.Nat.{◌-◌, ◌≤◌}
-use lib.ListN.{length, drop}
+use lib.ListN.{drop}
 use Rattle.bits.specs.Same.{same}
 use Rattle.entries.specs.Columns.{column_on}
 use Rattle.entries.proofs.steps.compare_columns.Given as goal
 
 abbrev pub invariant-loop-i : goal.invariant-loop-i
 invariant-loop-i l =
-    (l.i ≤ length l.entries) × (same l.entries (map (column_on l.w l.last) l.before) ≡ (l.right && same (drop l.i l.entries) (map (column_on l.w l.last) (drop l.i l.before))))
-
-abbrev pub decreases-loop-i : goal.decreases-loop-i
-decreases-loop-i l = length l.entries - l.i
+    same l.entries (map (column_on l.w l.last) l.before) ≡ (l.right && same (drop l.i l.entries) (map (column_on l.w l.last) (drop l.i l.before)))

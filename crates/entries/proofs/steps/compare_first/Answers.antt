@@ -1,39 +1,27 @@
 use mathlib.Core.Path.{◌≡◌, sym, ap, ◌∙◌}
-use Prim.Native.Nat.{ℕ, ◌*◌, ◌<◌}
+use Prim.Native.Nat.{◌+◌, ◌*◌}
 use native.Mathlib.Omega.{arith}
 use lib.ListN.{length}
 use Rattle.interleaver.specs.Interleaver.{permuted}
-use Rattle.interleaver.proofs.Walks.{in_column_down}
 use Rattle.entries.proofs.Turns.{right_here, wrong_here}
-use Rattle.entries.proofs.steps.compare_first.Goals.{After-number, In-loop-walk}
+use Rattle.entries.proofs.steps.compare_first.Goals.{After-number}
 use Rattle.entries.proofs.steps.compare_first.Goals as goal
 
--- in a turn the walk stands at a row of the first column
-row : (t : In-loop-walk) → t.loop-walk.walk.row < length t.args.alpha.now
-row t =
-    let i = t.loop-walk.invariant in
-    omega (arith, i.1.position-is, ap (λ (k : ℕ). length t.args.alpha.now * k) i.2, t.loop-walk-test.true, t.requires.column_len)
+-- what the entry of a turn should be
+due : (n : After-number) → (let p = n.args.permutation.now in n.number.result ≡ permuted p.alpha.now p.beta.now n.loop-row.row)
+due n =
+    let p = n.args.permutation.now in
+    let here : length p.alpha.now * 0 + n.loop-row.row ≡ n.loop-row.row = omega arith in
+    n.number.ensures ∙ n.position_in.ensures ∙ ap (permuted p.alpha.now p.beta.now) here
 
--- what its entry should be
-due : (n : After-number)
-    → (let a = n.args in n.number.result ≡ permuted a.alpha.now a.beta.now n.loop-walk.walk.position.0)
-due n = n.number.ensures ∙ n.interleaved_at-position.ensures
+pub returns-then-from-number : goal.returns-then-from-number
+returns-then-from-number c =
+    let p = c.args.permutation.now in
+    let n = (goal.at.returns-then-from-number c).After-number in
+    sym (sym c.loop-row.invariant ∙ wrong_here (permuted p.alpha.now p.beta.now) c.args.column.now c.loop-row.row c.loop-row-test.true (λ e. c.if-from-number.true (c.from.ensures ∙ e ∙ sym (due n))))
 
-pub returns-then-column-i : goal.returns-then-column-i
-returns-then-column-i c =
-    let a = c.args in
-    let l = c.loop-walk in
-    let π = permuted a.alpha.now a.beta.now in
-    sym (sym l.invariant.3 ∙ wrong_here π a.column.now l.walk.position.0 c.loop-walk-test.true (λ e. c.if-column-i.true (e ∙ sym (due (goal.at.returns-then-column-i c).After-number))))
-
-pub loop-walk-preserved : goal.loop-walk-preserved
-loop-walk-preserved c =
-    let a = c.args in
-    let l = c.loop-walk in
-    let π = permuted a.alpha.now a.beta.now in
-    rw c.down-walk.ensures (
-      omega (arith, c.loop-walk-test.true),
-      in_column_down _ l.walk l.invariant.1 (row (goal.at.loop-walk-preserved c).In-loop-walk),
-      l.invariant.2,
-      sym (right_here π a.column.now l.walk.position.0 c.loop-walk-test.true (c.if-column-i.false ∙ due (goal.at.loop-walk-preserved c).After-number)) ∙ l.invariant.3,
-    )
+pub loop-row-preserved : goal.loop-row-preserved
+loop-row-preserved c =
+    let p = c.args.permutation.now in
+    let n = (goal.at.loop-row-preserved c).After-number in
+    sym (right_here (permuted p.alpha.now p.beta.now) c.args.column.now c.loop-row.row c.loop-row-test.true (sym c.from.ensures ∙ c.if-from-number.false ∙ due n)) ∙ c.loop-row.invariant

@@ -1,60 +1,32 @@
--- The vectors that are loaded are the format's, so what the entries are held against is its expanded interleaver.
+-- The interleaver is the format's, so what the entries are held against is its expanded interleaver.
 use mathlib.Core.Path.{sym, ap, ◌∙◌}
 use Prim.Native.Nat.{◌≤◌}
 use native.Mathlib.Omega.{arith}
-use lib.ListN.{length, length-take}
+use lib.ListN.{length}
 use lib.Seq.{length-take-le}
 use Rattle.acm.specs.declared.table.Format.{Format}
-use Rattle.annex_c.specs.AnnexC.{widest}
-use Rattle.interleaver.proofs.Loaded.{loads, narrow, multiplies, loaded_vectors, loaded_size, loaded_starts, loaded_π}
-use Rattle.entries.proofs.Formats.{compared_is}
-use Rattle.entries.proofs.steps.holds.Goals.{After-parameters-f}
+use Rattle.interleaver.proofs.Formats.{format-length, format-π}
+use Rattle.interleaver.specs.Expanded.{expanded, expands}
+use Rattle.entries.proofs.steps.holds.Goals.{After-record-total}
 use Rattle.entries.proofs.steps.holds.Goals as goal
 
--- the format's W, which every buffer of a size's vectors holds
-fits : (p : After-parameters-f) → p.parameters-f.result.w ≤ widest
-fits p = narrow _ p.requires.0 p.parameters-f.ensures
-
 -- the memory has the I entries
-entries : (p : After-parameters-f) → p.parameters-f.result.i ≤ length p.args.memory.now
-entries p = omega (arith, ap (λ (r : Format). r.i) p.parameters-f.ensures, p.requires.1)
-
-pub load-requires : goal.load-requires
-load-requires c =
-    record {
-      w_value = loads _ c.requires.0 c.parameters-f.ensures;
-      w_in_bounds = fits (goal.at.load-requires c).After-parameters-f;
-      w_in_bounds_2 = fits (goal.at.load-requires c).After-parameters-f;
-    }
-
-pub multiples-starts-requires : goal.multiples-starts-requires
-multiples-starts-requires c =
-    multiplies _ c.requires.0 c.parameters-f.ensures
-
-pub slice_bounds-alpha-end : goal.slice_bounds-alpha-end
-slice_bounds-alpha-end c = omega (arith, fits (goal.at.slice_bounds-alpha-end c).After-parameters-f)
+entries : (c : After-record-total) → c.record-total.result.i ≤ length c.args.memory.now
+entries c = omega (arith, ap (λ (r : Format). r.i) c.record-total.ensures, c.requires)
 
 pub slice_bounds-compare-end : goal.slice_bounds-compare-end
-slice_bounds-compare-end c = simp length-take (omega (arith, fits (goal.at.slice_bounds-compare-end c).After-parameters-f))
-
-pub slice_bounds-beta-end : goal.slice_bounds-beta-end
-slice_bounds-beta-end c = omega (arith, fits (goal.at.slice_bounds-beta-end c).After-parameters-f)
-
-pub slice_bounds-compare-end-2 : goal.slice_bounds-compare-end-2
-slice_bounds-compare-end-2 c = simp length-take (omega (arith, fits (goal.at.slice_bounds-compare-end-2 c).After-parameters-f))
+slice_bounds-compare-end c =
+    sym (length-take-le _ _ (entries (goal.at.slice_bounds-compare-end c).After-record-total))
 
 pub compare-requires : goal.compare-requires
 compare-requires c =
-    let is = c.parameters-f.ensures in
-    let α = c.load.ensures.alpha_after in
-    let β = c.load.ensures.beta_after in record {
-      vectors = (loaded_vectors _ c.requires.0 is _ _ α β, loaded_starts _ c.requires.0 is _ _ α β c.multiples-starts.ensures);
-      memory_len = length-take-le _ c.args.memory.now (entries (goal.at.compare-requires c).After-parameters-f) ∙ sym (loaded_size _ c.requires.0 is _ _ α β);
-    }
+    let v = c.of_format.ensures in
+    length-take-le _ _ (entries (goal.at.compare-requires c).After-record-total)
+    ∙ ap (λ (r : Format). r.i) c.record-total.ensures ∙ sym (format-length _ c.args.format.listed v.alpha_value v.beta_value)
 
 pub returns : goal.returns
+unfolding expands expanded
 returns c =
-    let is = c.parameters-f.ensures in
-    let α = c.load.ensures.alpha_after in
-    let β = c.load.ensures.beta_after in
-    c.compare.ensures ∙ compared_is c.args.format is (loaded_π _ c.requires.0 is _ _ α β) c.args.memory.now c.requires.1
+    let v = c.of_format.ensures in
+    c.compare.ensures
+    ∙ rw (format-π _ c.args.format.listed v.alpha_value v.beta_value, c.record-total.ensures, length-take-le _ c.args.memory.now c.requires)
