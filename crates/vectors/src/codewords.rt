@@ -1,69 +1,76 @@
 // For every ACM format and six blocks, the digests of the outer kept bits, of the codeword and of its labels.
-use std::io;
-use testkit::{UNTOUCHED, bytes, front, print_digest, print_field};
+use acm::AcmFormat;
+use std::{fmt, io};
+use testkit::{UNTOUCHED, buffer, front, print_digest};
 
-// Blocks of a format: patterns 0, 1 and 2, and three seeded blocks.
-const BLOCKS: u64 = 6;
+// A block of a format: one of document 01's patterns, which are all zeros, all ones, and a single one at place 0, or a seeded block.
+#[derive(Clone, Copy, Debug, PartialEq, Eq)]
+enum Block {
+    Zeros,
+    Ones,
+    SingleOne,
+    Seeded(u8),
+}
 
-const PATTERNS: u64 = 3;
+impl Block {
+    fn fill(self, format: AcmFormat, out: &mut [u8]) {
+        match self {
+            Block::Zeros => out.fill(0),
+            Block::Ones => out.fill(1),
+            Block::SingleOne => {
+                out.fill(0);
+                testkit::set(out, 0, 1);
+            }
+            Block::Seeded(number) => {
+                testkit::fill_seeded(u64::from(number) * 1000 + format.number, out);
+            }
+        }
+    }
+}
+
+// The pattern's number, and of a seeded block an s and its number.
+impl fmt::Display for Block {
+    fn fmt<W: fmt::Write>(&self, f: &mut fmt::Formatter<W>) -> fmt::Result {
+        match self {
+            Block::Zeros => write!(f, "0"),
+            Block::Ones => write!(f, "1"),
+            Block::SingleOne => write!(f, "2"),
+            Block::Seeded(number) => write!(f, "s{number}"),
+        }
+    }
+}
 
 pub(crate) fn run(rt: &impl Print) -> io::Result<()> {
     println!(rt; "format,block,work,codeword,labels")?;
-    let mut row: u64 = 0;
-    while row < BLOCKS * acm::LAST {
-        print_row(rt, 1 + row / BLOCKS, row % BLOCKS)?;
-        row += 1;
+    for format in (1..=acm::LAST).filter_map(|number| AcmFormat::try_from(number).ok()) {
+        print_row(rt, format, Block::Zeros)?;
+        print_row(rt, format, Block::Ones)?;
+        print_row(rt, format, Block::SingleOne)?;
+        for number in 1..=3 {
+            print_row(rt, format, Block::Seeded(number))?;
+        }
     }
     Ok(())
 }
 
-fn print_row(rt: &impl Print, format: u64, number: u64) -> io::Result<()> {
-    let acm::Found::Record(f) = acm::lookup(format) else {
-        return Ok(());
-    };
-    let mut block = bytes(number as usize % 2);
-    fill_block(number, format, &mut block);
-    print_name(rt, format, number)?;
-    print_codeword(rt, format, f.i, f.n, front(&block, f.k))
+fn print_row(rt: &impl Print, format: AcmFormat, block: Block) -> io::Result<()> {
+    let mut bits = buffer(0);
+    block.fill(format, &mut bits);
+    print!(rt; "{},{block}", format.number)?;
+    print_codeword(rt, format, front(&bits, format.record().k))
 }
 
-// What is left of a block whose bits are its number modulo 2. Of document 01's patterns 0 (all zeros), 1 (all ones) and 2 (a single one at
-// place 0) that is place 0; of a seeded block it is the whole.
-fn fill_block(number: u64, format: u64, out: &mut [u8]) {
-    if number < PATTERNS {
-        testkit::set(out, 0, (number as usize + 1) / 2);
-    } else {
-        testkit::fill_seeded((number - 2) % 1000 * 1000 + format % 1000, out);
-    }
-}
-
-fn print_name(rt: &impl Print, format: u64, number: u64) -> io::Result<()> {
-    rt.print(format)?;
-    if number < PATTERNS {
-        print_field(rt, number)
-    } else {
-        print!(rt; ",s{}", number - 2)
-    }
-}
-
-fn print_codeword(
-    rt: &impl Print,
-    format: u64,
-    i: usize,
-    n: usize,
-    block: &[u8],
-) -> io::Result<()> {
-    let mut work = bytes(UNTOUCHED);
-    let mut codeword = bytes(UNTOUCHED);
-    encoder::encode(format, block, &mut work, &mut codeword);
-    print_digest(rt, &work, i)?;
-    print_labels(rt, format, front(&codeword, n))
-}
-
-fn print_labels(rt: &impl Print, format: u64, codeword: &[u8]) -> io::Result<()> {
-    let mut labels = bytes(UNTOUCHED);
-    encoder::labels(format, codeword, &mut labels);
-    print_digest(rt, codeword, codeword.len())?;
-    print_digest(rt, &labels, acm::SYMBOLS)?;
+fn print_codeword(rt: &impl Print, format: AcmFormat, block: &[u8]) -> io::Result<()> {
+    let f = format.record();
+    let mut work = buffer(UNTOUCHED);
+    let mut codeword = buffer(UNTOUCHED);
+    let mut labels = buffer(UNTOUCHED);
+    // A refused call writes nothing, so the digests are others.
+    let _ = encoder::encode(format.number, block, &mut work, &mut codeword);
+    let codeword = front(&codeword, f.n);
+    let _ = encoder::labels(format.number, codeword, &mut labels);
+    print_digest(rt, front(&work, f.i).iter().copied())?;
+    print_digest(rt, codeword.iter().copied())?;
+    print_digest(rt, front(&labels, acm::SYMBOLS).iter().copied())?;
     testkit::end_row(rt)
 }

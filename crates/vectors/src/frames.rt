@@ -1,91 +1,67 @@
 // For every ACM format, without pilots and with them, the digests of the frame marker, the frame descriptor, the labels of sixteen seeded
 // blocks, and their frame.
+use acm::AcmFormat;
 use framing::{FRAME_LABELS, PILOTS_OFF, PILOTS_ON};
 use std::io;
-use testkit::{bytes, front, front_mut, least, print_field};
+use testkit::{buffer, front, front_mut, print_digest};
 
-// Bits of the frame marker, and those with the frame descriptor's.
+// Bits of the frame marker, and of the frame descriptor behind it.
 const MARKER: usize = 256;
 
-const HEADER: usize = MARKER + 64;
+const DESCRIPTOR: usize = 64;
 
-// What counts of a slot: of a header's bit, 256 or 257, the last; else the whole.
-const LAST_BIT: u16 = 1;
-
-const WHOLE: u16 = 65535;
+// Blocks of a frame.
+const BLOCKS: u64 = 16;
 
 pub(crate) fn run(rt: &impl Print) -> io::Result<()> {
     println!(rt; "format,pilots,marker,descriptor,labels,frame")?;
-    let mut format: u64 = 1;
-    while format <= acm::LAST {
+    for format in (1..=acm::LAST).filter_map(|number| AcmFormat::try_from(number).ok()) {
         print_frames(rt, format)?;
-        format += 1;
     }
     Ok(())
 }
 
-fn print_frames(rt: &impl Print, format: u64) -> io::Result<()> {
-    let mut labels = bytes(0);
-    put_sections(format, front_mut(&mut labels, FRAME_LABELS));
-    print_frame(rt, format, PILOTS_OFF, front(&labels, FRAME_LABELS))?;
-    print_frame(rt, format, PILOTS_ON, front(&labels, FRAME_LABELS))
+fn print_frames(rt: &impl Print, format: AcmFormat) -> io::Result<()> {
+    let mut labels = buffer(0);
+    let labels = front_mut(&mut labels, FRAME_LABELS);
+    put_sections(format, labels);
+    print_frame(rt, format, PILOTS_OFF, labels)?;
+    print_frame(rt, format, PILOTS_ON, labels)
 }
 
-fn print_frame(rt: &impl Print, format: u64, pilots: u64, labels: &[u8]) -> io::Result<()> {
-    let mut slots = testkit::slots(0);
-    framing::frame(format, pilots, labels, &mut slots);
-    rt.print(format)?;
-    print_field(rt, pilots)?;
-    print_digests(rt, labels, &slots, framing::frame_length(pilots))
+fn print_frame(rt: &impl Print, format: AcmFormat, pilots: u64, labels: &[u8]) -> io::Result<()> {
+    let mut slots = buffer(0);
+    // A refused call writes nothing, so the digests are others.
+    let _ = framing::frame(format.number, pilots, labels, &mut slots);
+    print!(rt; "{},{pilots}", format.number)?;
+    print_digests(rt, labels, front(&slots, framing::frame_length(pilots)))
 }
 
-fn print_digests(rt: &impl Print, labels: &[u8], slots: &[u16], length: usize) -> io::Result<()> {
-    print_field(rt, digest_slots(slots, 0, MARKER, LAST_BIT))?;
-    print_field(rt, digest_slots(slots, MARKER, HEADER, LAST_BIT))?;
-    testkit::print_digest(rt, labels, FRAME_LABELS)?;
-    print_field(rt, digest_slots(slots, 0, length, WHOLE))?;
+// A slot of the header is 256 or 257: its last bit is the header's.
+fn print_digests(rt: &impl Print, labels: &[u8], frame: &[u16]) -> io::Result<()> {
+    let marker = frame.iter().take(MARKER);
+    let descriptor = frame.iter().skip(MARKER).take(DESCRIPTOR);
+    print_digest(rt, marker.map(|&slot| slot & 1))?;
+    print_digest(rt, descriptor.map(|&slot| slot & 1))?;
+    print_digest(rt, labels.iter().copied())?;
+    print_digest(rt, frame.iter().copied())?;
     testkit::end_row(rt)
 }
 
-fn put_sections(format: u64, labels: &mut [u8]) {
-    let mut k: usize = 0;
-    while k < FRAME_LABELS / acm::SYMBOLS {
-        put_labels(format, k, from_mut(labels, k * acm::SYMBOLS));
-        k += 1;
+fn put_sections(format: AcmFormat, labels: &mut [u8]) {
+    let first = 2000 + BLOCKS * format.number;
+    for (seed, section) in (first..first + BLOCKS).zip(labels.chunks_exact_mut(acm::SYMBOLS)) {
+        put_labels(format, seed, section);
     }
 }
 
-// The labels of block k of the frame, to the front of out.
-fn put_labels(format: u64, k: usize, out: &mut [u8]) {
-    let acm::Found::Record(f) = acm::lookup(format) else {
-        return;
-    };
-    let mut block = bytes(0);
-    let mut work = bytes(0);
-    let mut codeword = bytes(0);
-    testkit::fill_seeded(2000 + 16 * (format % 100) + k as u64 % 16, &mut block);
-    encoder::encode(format, front(&block, f.k), &mut work, &mut codeword);
-    encoder::labels(format, front(&codeword, f.n), out);
-}
-
-// The elements from a place on, none where there are none.
-fn from_mut(list: &mut [u8], at: usize) -> &mut [u8] {
-    let k = least(at, list.len());
-    &mut list[k..]
-}
-
-// The digest of the slots from the place `from` up to the place `to`, of each only the bits that the mask has.
-fn digest_slots(list: &[u16], from: usize, to: usize, mask: u16) -> u64 {
-    let end = least(to, list.len());
-    let mut d: u64 = 1;
-    let mut i = from;
-    while i < end {
-        d = testkit::mixed(d, wide_slot(list[i] & mask));
-        i += 1;
-    }
-    d
-}
-
-fn wide_slot(x: u16) -> u64 {
-    x as u64
+// The labels of a seeded block, to the front of out.
+fn put_labels(format: AcmFormat, seed: u64, out: &mut [u8]) {
+    let f = format.record();
+    let mut block = buffer(0);
+    let mut work = buffer(0);
+    let mut codeword = buffer(0);
+    testkit::fill_seeded(seed, &mut block);
+    let _ = encoder::encode(format.number, front(&block, f.k), &mut work, &mut codeword);
+    let _ = encoder::labels(format.number, front(&codeword, f.n), out);
 }
