@@ -2,19 +2,19 @@
 use crate::row::Row;
 use std::io;
 
-// A row that begins with no letter of these is a comment.
-pub(crate) fn make(rt: &impl Print, row: Row) -> io::Result<()> {
-    let letter = row.letter;
-    match letter {
-        b'e' => crate::encoding::encode(rt, row),
-        b'l' => crate::encoding::labels(rt, row),
-        b'f' => crate::frames::frame(rt, row),
-        b's' => crate::frames::section(rt, row),
-        b'c' => crate::frames::compare(rt, row),
-        b't' => crate::numbers::trellis(rt, row),
-        b'i' => crate::numbers::interleaver(rt, row),
-        b'a' => crate::numbers::acm(rt, row),
-        b'p' => crate::numbers::provenance(rt, row),
+// A row that begins with no word of these is a comment.
+pub(crate) fn make(rt: &impl Print, line: &str) -> io::Result<()> {
+    let mut row = Row::new(line);
+    match row.word() {
+        "encode" => crate::encoding::encode(rt, row),
+        "labels" => crate::encoding::labels(rt, row),
+        "frame" => crate::frames::frame(rt, row),
+        "section" => crate::frames::section(rt, row),
+        "compare" => crate::frames::compare(rt, row),
+        "trellis" => crate::numbers::trellis(rt, row),
+        "interleaver" => crate::numbers::interleaver(rt, row),
+        "acm" => crate::numbers::acm(rt, row),
+        "provenance" => crate::numbers::provenance(rt, row),
         _ => Ok(()),
     }
 }

@@ -1,46 +1,39 @@
 // trellis, interleaver, acm and provenance: calls on numbers alone.
+use crate::answer::print_answer;
 use crate::row::Row;
-use bits::checks;
-use interleaver::{Interleaved, Source, UpperPosition};
+use interleaver::{Source, UpperPosition};
 use std::io;
-use testkit::print_field;
 
 // State and bit. The row has the number, the two bits and the state that follows.
-pub(crate) fn trellis(rt: &impl Print, row: Row) -> io::Result<()> {
-    let stepped = trellis::step(row.e as u64, row.f as u64);
-    print_field(rt, stepped.number as u64)?;
-    print_field(rt, stepped.systematic as u64)?;
-    print_field(rt, stepped.parity as u64)?;
-    print_field(rt, stepped.state as u64)
+pub(crate) fn trellis(rt: &impl Print, mut row: Row) -> io::Result<()> {
+    let state = row.number();
+    let bit = row.number();
+    print_answer(
+        rt,
+        trellis::step(state, bit).map(|step| [step.systematic, step.parity, step.state]),
+    )
 }
 
 // Format and position. The row has the number and the interleaved position.
-pub(crate) fn interleaver(rt: &impl Print, row: Row) -> io::Result<()> {
-    match interleaver::interleave(row.e as u64, UpperPosition(row.f)) {
-        Interleaved::At(p) => print_two(rt, checks::PASSED, p.number()),
-        Interleaved::NoFormat => print_two(rt, checks::FORMAT, 0),
-        Interleaved::Outside => print_two(rt, checks::PLACE, 0),
-    }
-}
-
-fn print_two(rt: &impl Print, number: u8, value: usize) -> io::Result<()> {
-    print_field(rt, number as u64)?;
-    print_field(rt, value as u64)
+pub(crate) fn interleaver(rt: &impl Print, mut row: Row) -> io::Result<()> {
+    let format = row.number();
+    let position = UpperPosition(row.number());
+    print_answer(
+        rt,
+        interleaver::interleave(format, position).map(|interleaved| [interleaved.number()]),
+    )
 }
 
 // A format. The row has the number and N.
-pub(crate) fn acm(rt: &impl Print, row: Row) -> io::Result<()> {
-    match acm::lookup(row.f as u64) {
-        acm::Found::Record(f) => print_two(rt, checks::PASSED, f.n),
-        acm::Found::NoFormat => print_two(rt, checks::FORMAT, 0),
-    }
+pub(crate) fn acm(rt: &impl Print, mut row: Row) -> io::Result<()> {
+    print_answer(rt, acm::lookup(row.number()).map(|f| [f.n]))
 }
 
 // A format. The row has the number, and 1 for stand-in rows.
-pub(crate) fn provenance(rt: &impl Print, row: Row) -> io::Result<()> {
-    match interleaver::provenance(row.f as u64) {
-        Source::Published => print_two(rt, checks::PASSED, 0),
-        Source::StandIn => print_two(rt, checks::PASSED, 1),
-        Source::NoFormat => print_two(rt, checks::FORMAT, 0),
-    }
+pub(crate) fn provenance(rt: &impl Print, mut row: Row) -> io::Result<()> {
+    let source = interleaver::provenance(row.number());
+    print_answer(
+        rt,
+        source.map(|source| [u8::from(source == Source::StandIn)]),
+    )
 }
