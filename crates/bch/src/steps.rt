@@ -1,7 +1,6 @@
 // Opened to the layers above alone: a codeword of the BCH code. The register is held in a word, its first bit weighing most, and takes eight bits
 // at once, for speed: the eight that leave it, added to the eight that come, choose the entry of a table that is added to those that stay.
-ghost use Rattle.std.specs.Prelude.{◌≡◌, true, ◌+◌, ◌%◌, ◌^◌, ◌≤◌, ◌<◌, length};
-ghost use Rattle.std.proofs.lemmas.List.Edits.{sets};
+ghost use Rattle.std.specs.Prelude.{◌≡◌, true, ◌++◌, ◌+◌, ◌%◌, ◌^◌, ◌≤◌, ◌<◌, length, drop};
 ghost use Rattle.bits.specs.Legal.{all_bits};
 ghost use Rattle.bits.specs.Words.{bits_of};
 ghost use Rattle.bch.specs.Bch.{check_length, zeros, lower, check_bits, coded};
@@ -15,13 +14,13 @@ pub const CHECK_LENGTH: usize = 52;
 // Bits that the register takes at once.
 const BYTE_LENGTH: usize = 8;
 
-// The bits of a list and behind them their check bits, from the place at on.
-pub fn encode(list: &[u8], out: &mut [u8], at: usize)
-    requires { (all_bits list.now ≡ true) × (length list.now % byte_length ≡ 0) × (at + (length list.now + check_length) ≤ length out.old) }
-    ensures { out.new ≡ sets out.old at (coded list.now) }
+// The codeword of a list of bits, to the front of out: the bits, and behind them their check bits.
+pub fn encode(list: &[u8], out: &mut [u8])
+    requires { (all_bits list.now ≡ true) × (length list.now % byte_length ≡ 0) × (length list.now + check_length ≤ length out.old) }
+    ensures { out.new ≡ coded list.now ++ drop (length list.now + check_length) out.old }
 {
-    out[at..at + list.len()].copy_from_slice(list);
-    put_bits(check_word(list), out, at + list.len());
+    out[..list.len()].copy_from_slice(list);
+    put_bits(check_word(list), &mut out[list.len()..]);
 }
 
 // The check bits of a list, the first weighing 2^51.
@@ -65,12 +64,12 @@ fn pack(bits: &[u8]) -> u64
     byte
 }
 
-// The check bits that a word holds, from the place at on.
-fn put_bits(word: u64, out: &mut [u8], at: usize)
-    requires { at + check_length ≤ length out.old }
-    ensures { out.new ≡ sets out.old at (bits_of check_length word) }
+// The check bits that a word holds, to the front of out.
+fn put_bits(word: u64, out: &mut [u8])
+    requires { check_length ≤ length out.old }
+    ensures { out.new ≡ bits_of check_length word ++ drop check_length out.old }
 {
     for k in 0..CHECK_LENGTH {
-        out[at + k] = ((word >> (CHECK_LENGTH - 1 - k)) % 2) as u8;
+        out[k] = ((word >> (CHECK_LENGTH - 1 - k)) % 2) as u8;
     }
 }
