@@ -5,17 +5,17 @@ use Rattle.acm.specs.Formats.{format_of}
 use Rattle.acm.proofs.Laws.{format-sound}
 use Rattle.interleaver.specs.Interleaver.{π}
 use Rattle.inner.specs.Registers.{from_outer}
-use Rattle.inner.proofs.Loaded.{fits_whole, front-written}
+use Rattle.inner.proofs.Formats.{fits_whole, front-written}
 use Rattle.inner.proofs.Turns.{completed_start, completed-end}
 use Rattle.inner_expanded.proofs.steps.encode.Goals as goal
 
 pub returns : goal.returns
 unfolding from_outer
 returns c =
-    let f = c.args.format in
+    let f = c.args.format.number in
     let work = c.args.work.now in
     c.finish.ensures
     ∙ sym (completed-end (format_of f) (π f) work (format_of f).i c.run-end.result _ (omega arith))
     ∙ c.run-end.ensures.out_after
-    ∙ completed_start (format_of f) (π f) work c.args.out.now (omega (arith, (format-sound f c.requires.0).deletes)) (fits_whole f c.requires.0 work)
-    ∙ front-written f c.requires.0 work c.args.out.now c.requires.3
+    ∙ completed_start (format_of f) (π f) work c.args.out.now (omega (arith, (format-sound f c.args.format.listed).deletes)) (fits_whole f c.args.format.listed work)
+    ∙ front-written f c.args.format.listed work c.args.out.now c.requires.2

@@ -13,51 +13,51 @@ use Rattle.interleaver.proofs.Formats.{π-permutes}
 use Rattle.puncture.specs.Puncture.{period, pattern}
 use Rattle.puncture.proofs.Zeroed.{pattern-length, pattern-low}
 use Rattle.inner.specs.Left.{starting}
-use Rattle.inner.proofs.Loaded.{fits_whole}
+use Rattle.inner.proofs.Formats.{fits_whole}
 use Rattle.inner.proofs.Turns.{going_start, going_rooms, going_turn, counter_low}
-use Rattle.inner_expanded.proofs.steps.run.Goals.{After-number-position, After-parameters-f}
+use Rattle.inner_expanded.proofs.steps.run.Goals.{After-number-position, After-record-f}
 use Rattle.inner_expanded.proofs.steps.run.Goals as goal
 
 -- the format's record
-module _ (p : After-parameters-f) where
-  i-is : p.parameters-f.result.i ≡ (format_of p.args.format).i
-  i-is = ap (λ (r : Format). r.i) p.parameters-f.ensures
+module _ (p : After-record-f) where
+  i-is : p.record-f.result.i ≡ (format_of p.args.format.number).i
+  i-is = ap (λ (r : Format). r.i) p.record-f.ensures
 
-  delta-is : p.parameters-f.result.delta ≡ (format_of p.args.format).delta
-  delta-is = ap (λ (r : Format). r.delta) p.parameters-f.ensures
+  delta-is : p.record-f.result.delta ≡ (format_of p.args.format.number).delta
+  delta-is = ap (λ (r : Format). r.delta) p.record-f.ensures
 
 -- the position that is read
 module _ (n : After-number-position) where
-  more : n.loop-i.i < (format_of n.args.format).i
-  more = omega (arith, n.loop-i-test.true, ap (λ (r : Format). r.i) n.parameters-f.ensures)
+  more : n.loop-i.i < (format_of n.args.format.number).i
+  more = omega (arith, n.loop-i-test.true, ap (λ (r : Format). r.i) n.record-f.ensures)
 
   abbrev position : ℕ
-  position = π n.args.format n.loop-i.i
+  position = π n.args.format.number n.loop-i.i
 
   position-is : n.number-position.result ≡ position
   position-is = n.number-position.ensures ∙ n.held.ensures
 
   position-low : n.number-position.result < length n.args.work.now
-  position-low = omega (arith, position-is, (π-permutes _ n.requires.format_value.0).below _ more, n.requires.format_in_bounds.0)
+  position-low = omega (arith, position-is, (π-permutes _ n.args.format.listed).below _ more, n.requires.format_in_bounds.0)
 
   -- and its mark
   abbrev mark : ℕ
   mark = get_or n.args.pattern.now (n.number-position.result % period) 0
 
-  mark-is : mark ≡ get_or (pattern (format_of n.args.format).survivors) (position % period) 0
-  mark-is = ap₂ (λ (l : List ℕ) (k : ℕ). get_or l (k % period) 0) n.requires.format_value.2 position-is
+  mark-is : mark ≡ get_or (pattern (format_of n.args.format.number).survivors) (position % period) 0
+  mark-is = ap₂ (λ (l : List ℕ) (k : ℕ). get_or l (k % period) 0) n.requires.format_value.1 position-is
 
 pub loop-i-init : goal.loop-i-init
 loop-i-init c =
-    let f = c.args.format in
-    let coder = c.start-start.ensures.0 ∙ ap starting c.parameters-f.ensures in
-    let fits = fits_whole f c.requires.format_value.0 c.args.work.now in
-    rw coder (omega arith, fits.counter_low, going_start (format_of f) (π f) c.args.work.now c.args.out.now 0 (starting (format_of f)) fits)
+    let f = c.args.format.number in
+    let coder = c.start-coder.ensures.0 ∙ ap starting c.record-f.ensures in
+    let fits = fits_whole f c.args.format.listed c.args.work.now in
+    rw coder (fits.counter_low, going_start (format_of f) (π f) c.args.work.now c.args.out.now 0 (starting (format_of f)) fits)
 
 pub bounds-pattern-position : goal.bounds-pattern-position
 bounds-pattern-position c =
     let low : c.number-position.result % period < period = mod-lt _ (omega arith) in
-    omega (arith, ap length c.requires.format_value.2 ∙ pattern-length _, low)
+    omega (arith, ap length c.requires.format_value.1 ∙ pattern-length _, low)
 
 pub bounds-work-position : goal.bounds-work-position
 bounds-work-position c = position-low (goal.at.bounds-work-position c).After-number-position
@@ -65,26 +65,25 @@ bounds-work-position c = position-low (goal.at.bounds-work-position c).After-num
 pub turn-coder-requires : goal.turn-coder-requires
 turn-coder-requires c =
     let a = c.args in
-    let f = a.format in
+    let f = a.format.number in
     let l = c.loop-i in
-    let sound = format-sound f c.requires.format_value.0 in
-    let rooms = going_rooms (format_of f) (π f) a.work.now l.i l.coder l.invariant.2 c.requires.format_in_bounds.1 in (
+    let sound = format-sound f c.args.format.listed in
+    let rooms = going_rooms (format_of f) (π f) a.work.now l.i l.coder l.invariant.1 c.requires.format_in_bounds.1 in (
       omega (arith, mark-is (goal.at.turn-coder-requires c).After-number-position, pattern-low (format_of f).survivors (position (goal.at.turn-coder-requires c).After-number-position % period)),
       rooms.0,
       rooms.1,
-      omega (arith, i-is (goal.at.turn-coder-requires c).After-parameters-f, delta-is (goal.at.turn-coder-requires c).After-parameters-f, sound.deletes),
-      omega (arith, i-is (goal.at.turn-coder-requires c).After-parameters-f, l.invariant.1, sound.banks, sound.widest),
+      omega (arith, i-is (goal.at.turn-coder-requires c).After-record-f, delta-is (goal.at.turn-coder-requires c).After-record-f, sound.deletes),
+      omega (arith, i-is (goal.at.turn-coder-requires c).After-record-f, l.invariant.0, sound.banks, sound.widest),
     )
 
 pub loop-i-preserved : goal.loop-i-preserved
 loop-i-preserved c =
     let a = c.args in
-    let f = a.format in
+    let f = a.format.number in
     let l = c.loop-i in
-    let d = (format-sound f c.requires.format_value.0).deletes in
+    let d = (format-sound f c.args.format.listed).deletes in
     let bit = ap (λ (k : ℕ). get_or a.work.now k 0) (position-is (goal.at.loop-i-preserved c).After-number-position) in
-    rw (c.turn-coder.ensures.value, c.turn-coder.ensures.out_after, c.parameters-f.ensures) (
-      omega (arith, more (goal.at.loop-i-preserved c).After-number-position),
-      counter_low (format_of f).i (format_of f).delta l.coder.counter (omega (arith, d)) l.invariant.1,
-      going_turn (format_of f) (π f) a.work.now l.i l.coder l.invariant.2 (mark (goal.at.loop-i-preserved c).After-number-position) _ (more (goal.at.loop-i-preserved c).After-number-position) bit (ap (λ (m : ℕ). eqb m 1) (mark-is (goal.at.loop-i-preserved c).After-number-position)),
+    rw (c.turn-coder.ensures.value, c.turn-coder.ensures.out_after, c.record-f.ensures) (
+      counter_low (format_of f).i (format_of f).delta l.coder.counter (omega (arith, d)) l.invariant.0,
+      going_turn (format_of f) (π f) a.work.now l.i l.coder l.invariant.1 (mark (goal.at.loop-i-preserved c).After-number-position) _ (more (goal.at.loop-i-preserved c).After-number-position) bit (ap (λ (m : ℕ). eqb m 1) (mark-is (goal.at.loop-i-preserved c).After-number-position)),
     )
