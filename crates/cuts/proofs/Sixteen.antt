@@ -2,13 +2,14 @@
 use mathlib.Core.Path.{◌≡◌, refl, sym, ap, ◌∙◌}
 use mathlib.Core.Bool.{true}
 use mathlib.Core.List.{List, [], ◌∷◌, ◌++◌, map}
-use Prim.Native.Nat.{ℕ, zero, suc, ◌+◌, ◌-◌, ◌≤◌, ◌<◌}
+use Prim.Native.Nat.{ℕ, zero, suc, ◌+◌, ◌-◌, ◌/◌, ◌%◌, ◌≤◌, ◌<◌}
 use native.Mathlib.Omega.{arith}
 use lib.ListN.{length, get_or, take, drop, replicate, length-replicate, length-append, length-map, drop_of_length-le, get_or-append, get_or-map}
 use Rattle.bits.specs.Legal.{all_bits}
 use Rattle.bits.proofs.Fill.{Left, left_as, left_start, left_store, left_end}
 use Rattle.bits.proofs.Lists.{drop-next}
-use Rattle.trellis.specs.Trellis.{State, zero-state, state_number}
+use Rattle.trellis.specs.Trellis.{State, zero-state, state_number, ends}
+use Rattle.trellis.proofs.Runs.{ends-bits}
 use Rattle.cuts.specs.Cuts.{stops, between, segments_from, end_state, end_states, start_states, most_cuts, most_segments, Cuts, padded, states_of}
 use Rattle.cuts.specs.Propagation.{following, worked_from, worked_out}
 use Rattle.cuts.specs.declared.States.{States}
@@ -105,3 +106,15 @@ module _ (bits cuts : List ℕ) {started : List ℕ} {j : ℕ} (is : started ≡
       (get_or-append (start_states cuts bits) (replicate (most_segments - length (start_states cuts bits)) 0) 0 j (omega (arith, starts_length))
       ∙ get_or-map (λ c. end_state (take c bits)) (0 ∷ cuts) j 0
       ∙ ap (λ (k : ℕ). end_state (take k bits)) (sym (a.begins ∙ get_or-append (0 ∷ cuts) (length bits ∷ []) 0 j (omega arith))))
+
+  -- as a state, by the two lowest bits of its number
+  pub started_state : {from : ℕ} → At (stops (length bits) cuts) j from
+      → (let n = get_or started j 0 in
+      let x : State = (n / 2 % 2, n % 2) in
+      x ≡ ends zero-state (take from bits))
+  started_state {from} a =
+      let x = ends zero-state (take from bits) in
+      let two = ends-bits zero-state (take from bits) (omega arith) (omega arith) in
+      let first : state_number x / 2 % 2 ≡ x.0 = omega (arith, two.0, two.1) in
+      let second : state_number x % 2 ≡ x.1 = omega (arith, two.0, two.1) in
+      rw (started_at a, first, second)

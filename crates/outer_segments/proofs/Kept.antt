@@ -1,20 +1,16 @@
--- The outer trellis's kept bits by segments: how many, over joined lists, of the whole run, a step of the loop that stores them, and segments
--- stored one behind the other.
+-- The outer trellis's kept bits by segments: how many, over joined lists, of the whole run, and segments stored one behind the other.
 use mathlib.Core.Path.{◌≡◌, refl, sym, ap, ◌∙◌}
-use mathlib.Core.Bool.{Bool, true}
 use mathlib.Core.List.{List, [], ◌∷◌, ◌++◌}
-use Prim.Native.Nat.{ℕ, suc, ◌+◌, ◌%◌, ◌≤◌, ◌<◌}
+use Prim.Native.Nat.{ℕ, suc, ◌+◌, ◌%◌, ◌≤◌}
 use native.Mathlib.Omega.{arith}
 use borrow.Author.Tests.{eq-eqb, ne_eqb, eqb-true, eqb-false}
 use lib.Dec.{eqb}
-use lib.ListN.{length, get_or, set, take, drop, drop_of_length-le}
+use lib.ListN.{length, take, drop}
 use lib.Seq.{sets, length-sets, length-take-le, take-length}
-use Rattle.std.specs.Prelude.{if◌then◌else◌}
 use Rattle.bits.proofs.Cases.{by_cases}
-use Rattle.bits.proofs.Fill.{Left, left_as, left_store, sets-append, sets-front}
-use Rattle.bits.proofs.Lists.{drop-next}
-use Rattle.trellis.specs.Trellis.{State, zero-state, state_number, state_of, parity, next, parities, ends, termination, terminated, kept, outer}
-use Rattle.trellis.proofs.Runs.{terminated-length, end_back}
+use Rattle.bits.proofs.Fill.{sets-append, sets-front}
+use Rattle.trellis.specs.Trellis.{State, zero-state, parity, next, parities, ends, termination, terminated, kept, outer}
+use Rattle.trellis.proofs.Runs.{terminated-length}
 use Rattle.cuts.specs.Cuts.{between}
 use Rattle.cuts.proofs.Propagations.{between-joins, between-length}
 use Rattle.outer_segments.specs.Kept.{kept_from, kept_before}
@@ -55,9 +51,9 @@ module _ (block : List ℕ) (even : length block % 2 ≡ 0) where
   outer-room = omega (arith, kept-length 0 zero-state (terminated block), ap length outer-is, terminated-length zero-state block)
 
   -- stored in two parts, those of the terminating steps behind the block's
-  pub outer-stored : (work : List ℕ) {work₁ work₂ : List ℕ} {end : ℕ} → length (outer block) ≤ length work → end ≡ state_number x
+  pub outer-stored : (work : List ℕ) {work₁ work₂ : List ℕ} {end : State} → length (outer block) ≤ length work → end ≡ x
       → work₁ ≡ sets work 0 (kept_from 0 zero-state block)
-      → work₂ ≡ sets work₁ (kept_before (length block)) (kept_from (length block) (state_of end) (termination (state_of end)))
+      → work₂ ≡ sets work₁ (kept_before (length block)) (kept_from (length block) end (termination end))
       → work₂ ≡ outer block ++ drop (length (outer block)) work
   outer-stored work {work₁} room is is₁ is₂ =
       let a = kept_from 0 zero-state block in
@@ -65,41 +61,9 @@ module _ (block : List ℕ) (even : length block % 2 ≡ 0) where
       let n : 0 + length block ≡ length block = omega arith in
       let at : kept_before (length block) ≡ 0 + length a = ap kept_before (sym n) ∙ sym (kept-length 0 zero-state block) in
       let joined = kept_append 0 zero-state block (termination x) ∙ ap (λ (k : ℕ). a ++ kept_from k x (termination x)) n in
-      is₂ ∙ ap (λ (y : State). sets work₁ (kept_before (length block)) (kept_from (length block) y (termination y))) (ap state_of is ∙ end_back 0 block (omega arith))
+      is₂ ∙ ap (λ (y : State). sets work₁ (kept_before (length block)) (kept_from (length block) y (termination y))) is
       ∙ rw (is₁, at) (sym (sets-append work 0 a b))
       ∙ ap (sets work 0) (sym (outer-is ∙ joined)) ∙ sets-front (outer block) work room
-
--- a step: the bit and, of an even step, its parity
-pub kept-turn : (i : ℕ) (x : State) (bits : List ℕ) (k : ℕ) → k < length bits
-    → (let u = get_or bits k 0 in
-    let rest = kept_from (i + (k + 1)) (next x u) (drop (k + 1) bits) in
-    kept_from (i + k) x (drop k bits) ≡ (if eqb ((i + k) % 2) 0 then u ∷ parity x u ∷ rest else u ∷ rest))
-kept-turn i x bits k h =
-    let e : i + (k + 1) ≡ i + k + 1 = omega arith in
-    rw (drop-next bits k h, e)
-
-pub kept-done : (i : ℕ) (x : State) (bits : List ℕ) (k : ℕ) → length bits ≤ k → kept_from (i + k) x (drop k bits) ≡ []
-kept-done i x bits k h = rw (drop_of_length-le bits h)
-
--- its stores, the second only of a parity that is kept
-module _ {out₀ : List ℕ} {at : ℕ} {ws out : List ℕ} {n : ℕ} {us : List ℕ} (keeps : Bool) (u p : ℕ) (vs : List ℕ) (split : us ≡ (if keeps then u ∷ p ∷ vs else u ∷ vs))
-    (l : Left out₀ at ws out n us) (room : at + length ws ≤ length out₀) where
-  pub bit-room : n < length out
-  bit-room =
-      by_cases keeps (λ t. let m = left_as (rw t at split) l in omega (arith, m.count, m.same)) (λ f. let m = left_as (rw f at split) l in omega (arith, m.count, m.same))
-
-  pub parity-room : keeps ≡ true → n + 1 < length out
-  parity-room t =
-      let m = left_as (rw t at split) l in
-      omega (arith, m.count, m.same)
-
-  pub step_stored : {new : List ℕ} {k : ℕ} → k ≡ (if keeps then n + 1 + 1 else n + 1) → new ≡ (if keeps then set (set out n u) (n + 1) p else set out n u)
-      → Left out₀ at ws new k vs
-  step_stored past stored =
-      by_cases
-      keeps
-      (λ t. rw (past, stored, t) (left_store (left_store (left_as (rw t at split) l))))
-      (λ f. rw (past, stored, f) (left_store (left_as (rw f at split) l)))
 
 -- at a segment's start, the kept bits of the steps before it have been stored; and so at its end
 pub record Stored (bits work₀ : List ℕ) (from : ℕ) (work : List ℕ) : Type 0 where

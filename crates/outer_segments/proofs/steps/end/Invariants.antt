@@ -1,11 +1,7 @@
--- At i, the run from the state x0, x1 over the rest of the bits ends where the whole run ends.
-use Prim.Native.Nat.{◌-◌}
-use lib.ListN.{length}
-use Rattle.trellis.proofs.Turns.{Midway}
+-- The run from the present state over the rest of the bits ends where the whole run ends.
+use Rattle.std.proofs.Common.{◌≡◌, drop}
+use Rattle.trellis.specs.Trellis.{zero-state, ends}
 use Rattle.outer_segments.proofs.steps.end.Given as goal
 
-abbrev pub invariant-loop-i : goal.invariant-loop-i
-invariant-loop-i l = Midway l.state l.bits l.i (l.x0, l.x1)
-
-abbrev pub decreases-loop-i : goal.decreases-loop-i
-decreases-loop-i l = length l.bits - l.i
+abbrev pub invariant-loop-bit : goal.invariant-loop-bit
+invariant-loop-bit l = ends l.state (drop l.bit-index l.bits) ≡ ends zero-state l.bits
