@@ -78,7 +78,7 @@ impl Slicer {
         ensures { number_of result ≡ push_number self octets memory.now }
     {
         let format = AcmFormat::try_from(self.format)?;
-        if octets < LEAST_FRAME || MOST_FRAME < octets {
+        if !(LEAST_FRAME..=MOST_FRAME).contains(&octets) {
             return Err(Refusal::FrameLength);
         }
         if !fits_channel(self.octets, octets) {
