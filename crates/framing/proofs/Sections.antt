@@ -16,7 +16,7 @@ use Rattle.framing.specs.Frame.{section, sections}
 use Rattle.framing.specs.Calls.{section_labels, section_number}
 use Rattle.framing.proofs.Checked.{section-passed}
 
--- the two calls on the same arguments: with the number 0 the part is a codeword's labels, with any other it is empty
+-- with the number 0 the part is a codeword's labels, with any other it is empty
 pub section-length : (labels : List ℕ) (place : ℕ)
     → length (section_labels labels place) ≡ (if eqb (section_number labels place) passed then symbols else 0)
 unfolding section_labels

@@ -14,7 +14,7 @@ use pilots::steps::{SUBSECTION_LABELS, SUBSECTION_PILOTS};
 // Codeword sections of a frame.
 const SECTIONS: usize = 16;
 
-// The pilot choices.
+// The pilot choices, numbered as the C interface has them.
 pub const PILOTS_OFF: u64 = 0;
 
 pub const PILOTS_ON: u64 = 1;

@@ -35,6 +35,7 @@ fn put_subsection(labels: &[u8], out: &mut [u16], at: usize)
 }
 
 // A sub-section's pilots, from the slot at on.
+#[tactic(auto, using(bits::proofs::Parts::sets_of_part))]
 fn put_pilots(out: &mut [u16], at: usize)
     requires { at + subsection_pilots ≤ length out.old }
     ensures { out.new ≡ sets out.old at pilots }
