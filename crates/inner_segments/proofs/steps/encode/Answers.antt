@@ -1,63 +1,42 @@
--- The passes are lent the format's tables, so that what they write is the format's codeword, and the states are of its interleaved bits.
-use mathlib.Core.Path.{sym, ap, subst, ◌∙◌}
-use Prim.Native.Nat.{◌≤◌}
-use native.Mathlib.Omega.{arith}
-use lib.ListN.{length-take}
-use Rattle.acm.specs.declared.table.Format.{Format}
-use Rattle.annex_c.specs.AnnexC.{widest}
-use Rattle.interleaver.proofs.Loaded.{loads, narrow, multiplies}
-use Rattle.inner.proofs.Loaded.{lent_of, interleaved-is, fits_start, written_is}
-use Rattle.cuts.specs.Cuts.{Cuts, states_of}
-use Rattle.inner_segments.proofs.steps.encode.Goals.{After-parameters-f}
+-- The starting states that are worked out are those of the plain run over the interleaved bits, so the second pass is that run.
+use mathlib.Core.Path.{◌≡◌, sym, subst}
+use mathlib.Core.List.{List}
+use Prim.Native.Nat.{ℕ}
+use lib.ListN.{length}
+use Rattle.acm.specs.Formats.{format_of}
+use Rattle.acm.specs.declared.number.AcmFormat.{AcmFormat}
+use Rattle.interleaver.specs.Interleaver.{π}
+use Rattle.inner.specs.Registers.{interleaved}
+use Rattle.inner.proofs.Reading.{read_length}
+use Rattle.cuts.specs.Cuts.{Cuts, end_states, start_states, padded}
+use Rattle.cuts.proofs.Sixteen.{started_is, states_are}
+use Rattle.inner_segments.proofs.steps.encode.Goals.{After-starts-started}
 use Rattle.inner_segments.proofs.steps.encode.Goals as goal
 
-fits : (p : After-parameters-f) → p.parameters-f.result.w ≤ widest
-fits p = narrow _ p.requires.format_value.0 p.parameters-f.ensures
+-- the bits that are read, I of them, and the states of their segments
+module _ (c : After-starts-started) where
+  abbrev f : ℕ
+  f = c.args.format.number
 
-pub load-requires : goal.load-requires
-load-requires c =
-    record {
-      w_value = loads _ c.requires.format_value.0 c.parameters-f.ensures;
-      w_in_bounds = fits (goal.at.load-requires c).After-parameters-f;
-      w_in_bounds_2 = fits (goal.at.load-requires c).After-parameters-f;
-    }
+  abbrev bits : List ℕ
+  bits = interleaved (format_of f) (π f) c.args.work.now
 
-pub multiples-starts-requires : goal.multiples-starts-requires
-multiples-starts-requires c =
-    multiplies _ c.requires.format_value.0 c.parameters-f.ensures
+  ended : c.first-ended.result ≡ padded (end_states c.args.cuts.now bits)
+  ended = rw c.of-parameters.ensures at c.first-ended.ensures
 
-pub slice_bounds-alpha-end : goal.slice_bounds-alpha-end
-slice_bounds-alpha-end c = omega (arith, fits (goal.at.slice_bounds-alpha-end c).After-parameters-f)
+  cuts_are : Cuts (length bits) c.args.cuts.now
+  cuts_are = subst (λ (n : ℕ). Cuts n c.args.cuts.now) (sym (read_length (π f) c.args.work.now 0 (format_of f).i)) c.requires.cuts.0
 
-pub slice_bounds-passes-end : goal.slice_bounds-passes-end
-slice_bounds-passes-end c = simp length-take (omega (arith, fits (goal.at.slice_bounds-passes-end c).After-parameters-f))
+  started : c.starts-started.result ≡ padded (start_states c.args.cuts.now bits)
+  started = started_is bits c.args.cuts.now cuts_are ended c.requires.cuts.1 c.starts-started.ensures
 
-pub slice_bounds-beta-end : goal.slice_bounds-beta-end
-slice_bounds-beta-end c = omega (arith, fits (goal.at.slice_bounds-beta-end c).After-parameters-f)
+pub second-requires-clause-cuts : goal.second-requires-clause-cuts
+second-requires-clause-cuts c =
+    let cuts = c.args.cuts.now in
+    subst (λ (a : AcmFormat). Cuts (format_of a.number).i cuts × (c.starts-started.result ≡ padded (start_states cuts (interleaved (format_of a.number) (π a.number) c.args.work.now))))
+    (sym c.of-parameters.ensures) (c.requires.cuts.0, started (goal.at.second-requires-clause-cuts c).After-starts-started)
 
-pub slice_bounds-passes-end-2 : goal.slice_bounds-passes-end-2
-slice_bounds-passes-end-2 c = simp length-take (omega (arith, fits (goal.at.slice_bounds-passes-end-2 c).After-parameters-f))
-
-pub passes-requires : goal.passes-requires
-passes-requires c =
-    let h = c.requires.format_value.0 in
-    let is = c.parameters-f.ensures in
-    let w = c.args.work.now in
-    record {
-      lent = lent_of _ h is _ _ c.load.ensures.alpha_after c.load.ensures.beta_after c.multiples-starts.ensures c.multiples-residues.ensures c.laid_out-pattern.ensures w c.args.out.now c.requires.format_value.1 c.requires.format_value.2;
-      fits = fits_start _ h is _ _ c.load.ensures.alpha_after c.load.ensures.beta_after w;
-      cuts = (
-        subst (λ (r : Format). Cuts r.i c.args.cuts.now) (sym is) c.requires.cuts.0,
-        rw (interleaved-is _ h is _ _ c.load.ensures.alpha_after c.load.ensures.beta_after w) c.requires.cuts.1,
-      );
-    }
-
-pub returns : goal.returns
-returns c =
-    let h = c.requires.format_value.0 in
-    let is = c.parameters-f.ensures in
-    let w = c.args.work.now in
-    record {
-      value = c.passes.ensures.value ∙ ap (states_of c.args.cuts.now) (interleaved-is _ h is _ _ c.load.ensures.alpha_after c.load.ensures.beta_after w);
-      out_after = c.passes.ensures.out_after ∙ written_is _ h is _ _ c.load.ensures.alpha_after c.load.ensures.beta_after w c.args.out.now c.requires.format_value.2;
-    }
+pub returns-clause-value : goal.returns-clause-value
+returns-clause-value c =
+    let s = (goal.at.returns-clause-value c).After-starts-started in
+    states_are (bits s) c.args.cuts.now (ended s) (started s)

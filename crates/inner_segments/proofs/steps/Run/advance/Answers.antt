@@ -1,0 +1,73 @@
+use mathlib.Core.Path.{◌≡◌, ap, ◌∙◌}
+use Prim.Native.Nat.{ℕ, ◌+◌, ◌*◌, ◌<◌}
+use native.Mathlib.Omega.{arith}
+use lib.ListN.{length, get_or}
+use Rattle.acm.specs.Formats.{M, format_of}
+use Rattle.interleaver.specs.Interleaver.{π}
+use Rattle.interleaver.specs.Walk.{InColumn}
+use Rattle.interleaver.specs.declared.steps.Walk.{Walk}
+use Rattle.interleaver.proofs.Walks.{walked_row, walked-column, in_column, in_column_down}
+use Rattle.inner.proofs.Reading.{end-next}
+use Rattle.inner.proofs.Tables.{size, π-is, π-low}
+use Rattle.inner_segments.proofs.steps.Run.advance.Goals.{After-position_at-position, After-carry-walk, In-loop-walk}
+use Rattle.inner_segments.proofs.steps.Run.advance.Goals as goal
+
+-- in a turn, the position is inside the interleaver
+module _ (t : In-loop-walk) where
+  abbrev W : ℕ
+  W = length t.args.parameters.now.permutation.alpha.now
+
+  below : t.loop-walk.walk.position.0 < (format_of t.args.parameters.now.format.number).i
+  below = omega (arith, t.loop-walk-test.true, t.requires.2)
+
+  inside : t.loop-walk.walk.position.0 < M * W
+  inside = omega (arith, below, size t.args.parameters.now)
+
+  column : InColumn W t.loop-walk.walk
+  column = in_column W t.loop-walk.walk t.loop-walk.invariant.1 inside
+
+  row : t.loop-walk.walk.row < W
+  row = walked_row W t.loop-walk.walk t.loop-walk.invariant.1 inside
+
+-- the position that is read
+read_at : (c : After-position_at-position) → c.position_at-position.result.0 ≡ π c.args.parameters.now.format.number c.loop-walk.walk.position.0
+read_at c = c.position_at-position.ensures ∙ π-is c.args.parameters.now c.loop-walk.walk.position.0
+
+-- one position on
+past : (c : After-carry-walk) → c.carry-walk.result.position.0 ≡ c.loop-walk.walk.position.0 + 1
+past c = c.carry-walk.ensures.0 ∙ ap (λ (w : Walk). w.position.0) c.down.ensures
+
+pub position_at-position-requires : goal.position_at-position-requires
+position_at-position-requires c = (c.loop-walk.invariant.1, inside (goal.at.position_at-position-requires c).In-loop-walk)
+
+pub bounds-work-number : goal.bounds-work-number
+bounds-work-number c =
+    let t = (goal.at.bounds-work-number c).In-loop-walk in
+    let low = π-low c.args.parameters.now c.loop-walk.walk.position.0 (below t) in
+    omega (arith, c.number.ensures, read_at (goal.at.bounds-work-number c).After-position_at-position, low, c.requires.3)
+
+pub down-requires : goal.down-requires
+down-requires c =
+    let t = (goal.at.down-requires c).In-loop-walk in
+    (omega (arith, (column t).position-is), omega (arith, inside t, c.args.parameters.now.permutation.ranges.narrow))
+
+pub carry-walk-requires : goal.carry-walk-requires
+carry-walk-requires c =
+    let t = (goal.at.carry-walk-requires c).In-loop-walk in
+    rw c.down.ensures (
+      in_column_down _ c.loop-walk.walk (column t) (row t),
+      omega (arith, row t),
+      walked-column _ c.loop-walk.walk c.loop-walk.invariant.1 (inside t),
+    )
+
+pub loop-walk-preserved : goal.loop-walk-preserved
+loop-walk-preserved c =
+    let x = c.args in
+    let ρ = π x.parameters.now.format.number in
+    let i = c.loop-walk.walk.position.0 in
+    let on = past (goal.at.loop-walk-preserved c).After-carry-walk in
+    let bit = ap (λ (k : ℕ). get_or x.work.now k 0) (c.number.ensures ∙ read_at (goal.at.loop-walk-preserved c).After-position_at-position) in (
+      omega (arith, on, c.loop-walk-test.true),
+      c.carry-walk.ensures.1,
+      rw (c.next-state.ensures, on) (end-next ρ x.work.now x.to i c.loop-walk.state c.loop-walk-test.true bit) ∙ c.loop-walk.invariant.2,
+    )
