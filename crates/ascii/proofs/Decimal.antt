@@ -1,4 +1,5 @@
 -- A number's decimal text is that of its digits but the last, and the last; it has at most as many digits as the power of ten above it.
+-- Of any number: std's lemmas on its own decimal text ask for a bound.
 use mathlib.Core.Path.{◌≡◌, refl, sym, ap, ◌∙◌}
 use mathlib.Core.List.{List, [], ◌∷◌, ◌++◌}
 use Prim.Native.Nat.{ℕ, zero, suc, ◌+◌, ◌*◌, ◌/◌, ◌%◌, ◌^◌, ◌≤◌, ◌<◌}

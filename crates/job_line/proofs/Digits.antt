@@ -1,5 +1,5 @@
 -- The decimal text of any number has digits alone, its value is the number, and it leads with a zero only if it has one digit.
-use mathlib.Core.Path.{◌≡◌, refl, ap, ◌∙◌}
+use mathlib.Core.Path.{◌≡◌, ap, ◌∙◌}
 use mathlib.Core.Bool.{true}
 use mathlib.Core.List.{List, [], ◌∷◌, ◌++◌, map}
 use Prim.Native.Nat.{ℕ, zero, suc, ◌-◌, ◌/◌, ◌%◌, ◌≤◌, ◌<◌}
@@ -7,6 +7,7 @@ use native.Mathlib.Omega.{arith}
 use borrow.Author.Tests.{le-leb, ltb-true, ltb-false}
 use lib.Dec.{ltb}
 use lib.ListN.{length, get_or, get_or-append}
+use Rattle.std.proofs.lemmas.List.{map-append}
 use Rattle.bits.proofs.Cases.{by_cases}
 use Rattle.bits.proofs.Digits.{value-last}
 use Rattle.bits.proofs.Table.{left-true, right_true}
@@ -22,10 +23,6 @@ digits_last (x ∷ xs) d t e =
 
 digit-is : (d : ℕ) → d < 10 → is_digit (digit d) ≡ true
 digit-is d h = rw (le-leb zero_digit (digit d) (omega arith), le-leb (digit d) nine_digit (omega arith))
-
-map_last : (f : ℕ → ℕ) (xs : List ℕ) (d : ℕ) → map f (xs ++ d ∷ []) ≡ map f xs ++ f d ∷ []
-map_last f [] d = refl
-map_last f (x ∷ xs) d = ap (λ (l : List ℕ). f x ∷ l) (map_last f xs d)
 
 record Good (n : ℕ) : Type 0 where
   digits : all_digits (decimal n) ≡ true
@@ -47,7 +44,7 @@ good_more n h g =
     let last = digit (n % 10) in
     record {
       digits = rw (decimal-more n h) (digits_last front last g.digits (digit-is (n % 10) (omega arith)));
-      is = rw (decimal-more n h, map_last (λ d. d - zero_digit) front last) (value-last 10 0 (map (λ d. d - zero_digit) front) (last - zero_digit) ∙ omega (arith, g.is));
+      is = rw (decimal-more n h, map-append (λ d. d - zero_digit) front (last ∷ [])) (value-last 10 0 (map (λ d. d - zero_digit) front) (last - zero_digit) ∙ omega (arith, g.is));
       leads = (λ some. rw (decimal-more n h, get_or-append front (last ∷ []) 0 0 (decimal-some (n / 10))) (g.leads (omega arith)));
     }
 

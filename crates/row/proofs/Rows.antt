@@ -1,12 +1,12 @@
 -- The block of a pattern has K bits, and the ones of a list are no more than its elements.
 use mathlib.Core.Path.{◌≡◌, refl, ap, ◌∙◌}
 use mathlib.Core.Bool.{true}
-use mathlib.Core.List.{List, [], ◌∷◌, ◌++◌}
+use mathlib.Core.List.{List, [], ◌∷◌}
 use Prim.Native.Nat.{ℕ, zero, suc, ◌+◌, ◌≤◌, ◌<◌}
 use native.Mathlib.Omega.{arith}
 use borrow.Author.Tests.{le-leb, eq-eqb, ne_eqb}
 use lib.Dec.{eqb}
-use lib.ListN.{length, take, drop, set, replicate, length-replicate, length-set}
+use lib.ListN.{length, take, set, replicate, length-replicate, length-set}
 use lib.Seq.{length-take-le, take_at}
 use Rattle.std.specs.Prelude.{cond, count_by, ◌==◌, Result, Ok, Err, IsOk}
 use Rattle.std.proofs.lemmas.List.Sums.{sum_by-cons}
@@ -77,10 +77,8 @@ module _ (f : ℕ) (memory : List ℕ) (room : (format_of f).k ≤ length memory
   pub some-room : is_format f ≡ true → 0 < length (take r.k memory)
   some-room h = rw (is, length-take-le (format_of f).k memory room) (within f h).some
 
-  pub block-put : (p : ℕ) {filled : List ℕ} → filled ≡ block p (length (take r.k memory)) → take r.k (filled ++ drop r.k memory) ≡ block p (format_of f).k
-  block-put p {filled} put =
-      let here : filled ≡ block p (format_of f).k = put ∙ rw (is, length-take-le (format_of f).k memory room) in
-      rw (is, here) (take_at _ _ _ (block-length p (format_of f).k))
+  pub block-put : (p : ℕ) {filled : List ℕ} → filled ≡ block p (length (take r.k memory)) → filled ≡ block p (format_of f).k
+  block-put p put = put ∙ rw (is, length-take-le (format_of f).k memory room)
 
 -- and is encoded, in memory that is long enough
 module _ (f : ℕ) (h : is_format f ≡ true) (p : ℕ) (work out lent : List ℕ) (work-room : (format_of f).i ≤ length work) (out-room : (format_of f).n ≤ length out)

@@ -46,7 +46,8 @@ fn codeword_ones(format: AcmFormat, pattern: u64) -> usize
     encoded_ones(format, pattern, &mut block, &mut work, &mut codeword)
 }
 
-// The same, with the memory for the block, the encoder's workspace and the codeword lent.
+// The same, with the memory for the block, the encoder's workspace and the codeword lent: where the arrays stand beside the calls, the search
+// finds no proof of the slices' bounds.
 fn encoded_ones(
     format: AcmFormat,
     pattern: u64,
@@ -58,9 +59,10 @@ fn encoded_ones(
     ensures { result ≡ ones (codeword_of format.number (block_of pattern (format_of format.number).k)) }
 {
     let f = format.record();
-    put_block(pattern, &mut block[..f.k]);
+    let block = &mut block[..f.k];
+    put_block(pattern, block);
     // No check of this call fails.
-    encoder::encode(format.number, &block[..f.k], work, codeword).unwrap();
+    encoder::encode(format.number, block, work, codeword).unwrap();
     count_ones(&codeword[..f.n])
 }
 
