@@ -1,12 +1,11 @@
 -- What holds of every size of annex C, from the test.
 use mathlib.Core.Path.{◌≡◌, ◌∙◌}
 use mathlib.Core.Bool.{true, false≢true}
-use mathlib.Core.List.{List, [], ◌∷◌, ◌++◌}
+use mathlib.Core.List.{List, [], ◌∷◌}
 use Prim.Native.Nat.{ℕ, suc}
 use borrow.Author.Tests.{eqb-true}
 use lib.Dec.{eqb}
-use lib.ListN.{length, get_or, take}
-use lib.Seq.{take_at}
+use lib.ListN.{length, get_or}
 use Rattle.bits.specs.Permutation.{Permutes}
 use Rattle.bits.proofs.Cases.{by_cases}
 use Rattle.bits.proofs.Table.{left-true, right_true, every}
@@ -43,11 +42,3 @@ module _ (w : ℕ) (h : is_size w ≡ true) where
 
   pub rows_permute : Permutes (length (size_of w).α) (λ j. get_or (size_of w).α j 0)
   rows_permute = size-sound.permutes
-
-  -- what `load` puts at the front of a buffer
-  module _ (l rest : List ℕ) where
-    pub front-α : l ≡ (size_of w).α ++ rest → take w l ≡ (size_of w).α
-    front-α e = rw e (take_at (size_of w).α rest w α-rows)
-
-    pub front-β : l ≡ (size_of w).β ++ rest → take w l ≡ (size_of w).β
-    front-β e = rw e (take_at (size_of w).β rest w β-rows)

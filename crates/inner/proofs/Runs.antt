@@ -36,10 +36,5 @@ module _ (p : Parameters) where
 
     -- and at the last
     module _ (stands : Stands p work at) (late : (format_of f).i ≤ at.walk.position.0) where
-      pub finish_rooms : {out : List ℕ} → Lent f work out → (at.coder.upper + 1 < length out) × (at.coder.lower + 1 < length out)
-      finish_rooms lent =
-          let rooms = end_rooms (format_of f) (π f) work at.walk.position.0 at.coder late stands.fits in
-          (omega (arith, rooms.0, lent.room), omega (arith, rooms.1, lent.room))
-
       pub completes-end : (out : List ℕ) → completes f work at out ≡ finished at.coder out
       completes-end out = completed-end (format_of f) (π f) work at.walk.position.0 at.coder out late
