@@ -12,28 +12,27 @@ use std::io::Read;
 const INPUT: usize = job_line::LONGEST + 1;
 
 fn main(rt: HostRuntime) -> io::Result<()> {
-    let mut input = [0u8; INPUT];
-    let n = read_full(&rt, &mut input);
+    let mut buffer = [0; INPUT];
+    let input = read_full(&rt, &mut buffer);
     // A warning that cannot be written does not keep the row back.
-    let _ = warn(&rt, &input[..n]);
-    print(&rt, &input[..n])
+    let _ = warn(&rt, input);
+    print(&rt, input)
 }
 
-// Reads until out is full, the input ends or a read fails, and answers how many bytes are at the front of out. So an input that cannot be read
-// counts as empty.
+// Reads until the buffer is full, the input ends or a read fails, and answers what was read. So an input that cannot be read counts as empty.
 // A loop over read, since read_exact leaves open how far it came. crates/readings has its twin: this program stands on no crate of the tests.
-fn read_full(rt: &impl Input, out: &mut [u8]) -> usize
-    ensures { result ≤ length out.new }
+fn read_full<'a>(rt: &impl Input, buffer: &'a mut [u8]) -> &'a [u8]
+    ensures { length result.now ≤ length buffer.old }
 {
     let mut from = rt.reader();
     let mut done = 0;
-    while done < out.len() {
-        match from.read(&mut out[done..]) {
+    while done < buffer.len() {
+        match from.read(&mut buffer[done..]) {
             Ok(0) | Err(_) => break,
             Ok(n) => done += n,
         }
     }
-    done
+    &buffer[..done]
 }
 
 // What job makes of the input, and nothing else.

@@ -19,6 +19,7 @@ pub const LONGEST_OUTPUT: usize = 45;
 // What the bench prints for a text on its standard input, for any bytes: header and row, or the number of the check that failed.
 // Checks: those of job_line::parse.
 // Afterwards the front of out is the output, whose length is the answer, and the rest is as it was.
+// The answer is not a slice of out: of a buffer that stays lent, the contract could not say what stands behind the output.
 pub fn output(text: &[u8], out: &mut [u8; LONGEST_OUTPUT]) -> usize
     ensures length { result ≡ length (output_of text.now) }
     ensures printed { out.new ≡ at_front (output_of text.now) out.old }
