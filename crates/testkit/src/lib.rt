@@ -61,6 +61,7 @@ pub fn front<T>(list: &[T], n: usize) -> &[T] {
     &list[..n.min(list.len())]
 }
 
+// The same to write to: a shared loan and one to write to take two functions, as get and get_mut do.
 pub fn front_mut<T>(list: &mut [T], n: usize) -> &mut [T] {
     let n = n.min(list.len());
     &mut list[..n]
