@@ -1,5 +1,5 @@
 -- Which check decides, and what the number 0 says of a call's arguments.
-use mathlib.Core.Path.{◌≡◌, refl, ◌∙◌}
+use mathlib.Core.Path.{◌≡◌, refl, sym, ◌∙◌}
 use mathlib.Core.Bool.{true, false}
 use mathlib.Core.List.{List}
 use Prim.Native.Nat.{ℕ, ◌≤◌, ◌<◌}
@@ -7,7 +7,7 @@ use borrow.Author.Tests.{leb-true, le-leb, lt-leb, eq-eqb, ne_eqb}
 use lib.Dec.{lit<}
 use lib.ListN.{length}
 use Rattle.bits.specs.Checks.{◌or_else◌, first_failed, passed, bad_element, short_memory}
-use Rattle.bits.proofs.Passed.{passes, when_passed, when_refused, passed-before}
+use Rattle.bits.proofs.Passed.{passes as passes-at, when_passed, when_refused, passed-before}
 use Rattle.acm.specs.Formats.{format_of}
 use Rattle.acm.specs.declared.table.Format.{Format}
 use Rattle.interleaver.specs.Expanded.{expands}
@@ -46,6 +46,7 @@ module _ (f : ℕ) (block : List ℕ) (work_room out_room : ℕ) (memory : List 
       right_entries e t = rw (← memory_later encodes, ← is, le-leb r.i (length memory) room, eq-eqb held r.i e, t)
 
   pub record SharedPassed : Type 0 where
+    pub passes : number ≡ passed
     pub encodes : plain ≡ passed
     pub room : (format_of f).i ≤ length memory
     pub holds : held ≡ (format_of f).i → expands f memory ≡ true
@@ -54,9 +55,14 @@ module _ (f : ℕ) (block : List ℕ) (work_room out_room : ℕ) (memory : List 
   unfolding shared_number
   shared-passed e =
       let encodes = passed-before plain (first_failed (memory_checks f memory held)) e in
-      let part = passes (memory_checks f memory held) (true or_else passed) refl (memory_later encodes ∙ e) in
+      let part = passes-at (memory_checks f memory held) (true or_else passed) refl (memory_later encodes ∙ e) in
       record {
+        passes = e;
         encodes = encodes;
         room = leb-true (format_of f).i (length memory) (part 0 (lit< tt));
         holds = λ d. rw (eq-eqb held (format_of f).i d) at (part 1 (lit< tt));
       }
+
+pub shared_passed-at : {n f : ℕ} {block : List ℕ} {work_room out_room : ℕ} {memory : List ℕ} {held : ℕ} → n ≡ f
+    → passed ≡ shared_number f block work_room out_room memory held → SharedPassed n block work_room out_room memory held
+shared_passed-at {f = f} {block} {work_room} {out_room} {memory} {held} is e = rw is (shared-passed f block work_room out_room memory held (sym e))

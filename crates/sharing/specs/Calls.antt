@@ -1,11 +1,11 @@
 -- Encoding through an interleaver memory (document 02, L10): the number that the call answers, the size that the memory holds then, and what is left
 -- in each buffer.
-use Rattle.std.specs.Prelude.{true, List, [], ◌∷◌, ◌++◌, ℕ, eqb, leb, length, drop, if◌then◌else◌}
-use Rattle.bits.specs.Checks.{Check, ◌or_else◌, first_failed, passed, bad_element, short_memory}
+use Rattle.std.specs.Prelude.{true, List, [], ◌∷◌, ◌++◌, ℕ, eqb, leb, length, drop, if◌then◌else◌, Result, Ok, Err}
+use Rattle.bits.specs.Checks.{Check, ◌or_else◌, check_number, first_failed, passed, bad_element, short_memory}
+use Rattle.bits.specs.declared.checks.Refusal.{Refusal}
 use Rattle.acm.specs.Formats.{format_of}
 use Rattle.interleaver.specs.Expanded.{expanded, expands}
 use Rattle.encoder.specs.Calls.{encode_number, encode_workspace, encode_output}
-use Rattle.sharing.specs.declared.Shared.{Shared}
 
 -- the checks of the memory: its room and, if it is said to hold the format's size, its entries
 abbrev pub memory_checks : ℕ → List ℕ → ℕ → List Check
@@ -20,6 +20,16 @@ shared_number f block work_room out_room memory held =
     if eqb (encode_number f block work_room out_room) passed
     then first_failed (memory_checks f memory held)
     else encode_number f block work_room out_room
+
+-- an answer, as it is numbered: the size that the memory holds, 0 for none
+pub record Shared : Type 0 where
+  pub number : ℕ
+  pub held : ℕ
+
+-- of a call whose memory held so much before
+abbrev pub answer_of : ℕ → Result ℕ Refusal → Shared
+answer_of held (Ok size) = record { number = passed; held = size }
+answer_of held (Err refusal) = record { number = check_number refusal; held = held }
 
 -- the answer: the memory holds the format's size, on refusal what it held
 unfoldable pub shared : ℕ → List ℕ → ℕ → ℕ → List ℕ → ℕ → Shared

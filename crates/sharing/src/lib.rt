@@ -1,26 +1,21 @@
 // Two channels, one interleaver memory (document 02, L10): encoding through the expanded interleaver that a memory holds.
 #![tactic(auto)]
 
-ghost use Rattle.std.specs.Prelude.{◌≡◌, true, ◌++◌, ◌≤◌, length, drop};
-ghost use Rattle.acm.specs.Formats.{is_format, format_of};
+ghost use Rattle.std.specs.Prelude.{◌≡◌, true, ◌++◌, ◌≤◌, length, drop, IfOk};
+ghost use Rattle.bits.specs.Checks.{number_of};
+ghost use Rattle.acm.specs.Formats.{format_of};
 ghost use Rattle.interleaver.specs.Expanded.{expanded, expands};
-ghost use Rattle.sharing.specs.Calls.{shared_number, shared, shared_workspace, shared_output, shared_memory};
+ghost use Rattle.sharing.specs.Calls.{shared_number, answer_of, shared, shared_workspace, shared_output, shared_memory};
 
-use bits::checks;
+use acm::AcmFormat;
+use bits::Refusal;
 
-// The answer: the check's number, and the size I that the memory holds, 0 for none.
-#[derive(Drop)]
-pub struct Shared {
-    pub number: u8,
-    pub held: u64,
-}
-
-// The codeword of an information block, by the expanded interleaver that a memory holds: held names its size, 0 for none. One of another size is
-// built anew first.
+// The codeword of an information block, by the expanded interleaver that a memory holds: held names its size, 0 for none, a number as C has it.
+// One of another size is built anew first. Answers the size that the memory holds then.
 // Checks: 1, 2, 3, 4, 5, as encode's; 15, the memory has at least I entries; 3, if held is I, each of the first I entries is its position's
 // interleaved position.
-// Afterwards work and out are as encode leaves them, the first I entries of memory are the expanded interleaver, the others as they were, and
-// held is I; on refusal all bytes, entries and held are as they were.
+// Afterwards work and out are as encode leaves them, the first I entries of memory are the expanded interleaver, the others as they were; on
+// refusal all bytes and entries are as they were, and the memory holds what it held.
 pub fn encode_shared(
     format: u64,
     block: &[u8],
@@ -28,59 +23,53 @@ pub fn encode_shared(
     out: &mut [u8],
     memory: &mut [u16],
     held: u64,
-) -> Shared
-    ensures answer { result ≡ shared format block.now (length work.old) (length out.old) memory.old held }
+) -> Result<u64, Refusal>
+    ensures answer { answer_of held result ≡ shared format block.now (length work.old) (length out.old) memory.old held }
     ensures workspace { work.new ≡ shared_workspace format block.now work.old out.old memory.old held }
     ensures output { out.new ≡ shared_output format block.now work.old out.old memory.old held }
     ensures interleaver { memory.new ≡ shared_memory format block.now (length work.old) (length out.old) memory.old held }
 {
-    let number = check_shared(format, block, work.len(), out.len(), memory, held);
-    if number != checks::PASSED {
-        return Shared { number, held };
-    }
-    let held = prepare(format, memory, held);
+    let format = check_shared(format, block, work.len(), out.len(), memory, held)?;
+    let size = prepare(format, memory, held);
     encoder::steps::put_pieces(format, block, out);
-    let f = acm::steps::parameters(format);
-    let k1 = f.k1;
+    let k1 = format.record().k1;
     trellis::steps::outer(&block[..k1], work);
     inner_expanded::steps::encode(format, memory, work, out);
-    Shared {
-        number: checks::PASSED,
-        held,
-    }
+    Ok(size)
 }
 
 // Builds the expanded interleaver of a format, unless the memory holds it. Answers the size that it holds then.
-fn prepare(format: u64, memory: &mut [u16], held: u64) -> u64
-    requires { (is_format format ≡ true) × ((format_of format).i ≤ length memory.old) × (held ≡ (format_of format).i → expands format memory.old ≡ true) }
-    ensures value { result ≡ (format_of format).i }
-    ensures memory_after { memory.new ≡ expanded format ++ drop (format_of format).i memory.old }
+fn prepare(format: AcmFormat, memory: &mut [u16], held: u64) -> u64
+    requires { ((format_of format.number).i ≤ length memory.old) × (held ≡ (format_of format.number).i → expands format.number memory.old ≡ true) }
+    ensures value { result ≡ (format_of format.number).i }
+    ensures memory_after { memory.new ≡ expanded format.number ++ drop (format_of format.number).i memory.old }
 {
-    let f = acm::steps::parameters(format);
-    let size = f.i as u64;
+    let size = format.record().i as u64;
     if held != size {
         expansion::steps::build(format, memory);
     }
     size
 }
 
-// The number of the first check of encode_shared that fails, 0 if none does.
-fn check_shared(format: u64, block: &[u8], work: usize, out: usize, memory: &[u16], held: u64) -> u8
-    ensures { result ≡ shared_number format block.now work out memory.now held }
+// The format of a call that encode_shared takes, or the first of its checks that fails.
+fn check_shared(
+    format: u64,
+    block: &[u8],
+    work: usize,
+    out: usize,
+    memory: &[u16],
+    held: u64,
+) -> Result<AcmFormat, Refusal>
+    ensures number { number_of result ≡ shared_number format block.now work out memory.now held }
+    ensures known { IfOk result (λ f. f.number ≡ format) }
 {
-    let number = encoder::check_encode(format, block, work, out);
-    if number != checks::PASSED {
-        return number;
+    let format = encoder::check_encode(format, block, work, out)?;
+    let size = format.record().i;
+    if memory.len() < size {
+        return Err(Refusal::Memory);
     }
-    let f = acm::steps::parameters(format);
-    if memory.len() < f.i {
-        return checks::MEMORY;
+    if held == size as u64 && !entries::steps::holds(format, memory) {
+        return Err(Refusal::Element);
     }
-    if held != f.i as u64 {
-        return checks::PASSED;
-    }
-    if !entries::steps::holds(format, memory) {
-        return checks::ELEMENT;
-    }
-    checks::PASSED
+    Ok(format)
 }

@@ -1,49 +1,38 @@
 -- Behind encode's checks, each return rewrites with the tests that led there.
 use mathlib.Core.Path.{◌≡◌, sym, ap, ◌∙◌}
-use native.Mathlib.Omega.{arith}
-use Rattle.bits.specs.Checks.{passed}
-use Rattle.acm.specs.declared.table.Format.{Format}
-use Rattle.encoder.specs.Calls.{encode_number}
-use Rattle.encoder.proofs.Checked.{encode_passed}
+use Rattle.std.proofs.lemmas.Result.{err_from_is_err_and}
+use Rattle.bits.proofs.Refusals.{not_passed}
+use Rattle.acm.specs.Formats.{format_of}
 use Rattle.sharing.proofs.Checked.{encode_first, short, other_size, wrong_entry, right_entries}
-use Rattle.sharing.proofs.check_shared.Goals.{Else-number-ne-PASSED}
+use Rattle.sharing.proofs.check_shared.Goals.{else-held-size-via-then-held-size+else-not-holds, else-held-size-via-else-held-size}
 use Rattle.sharing.proofs.check_shared.Goals as goal
 
--- behind encode's checks
-module _ (d : Else-number-ne-PASSED) where
-  encodes : encode_number d.args.format d.args.block.now d.args.work d.args.out ≡ passed
-  encodes = sym d.check_encode-number.ensures ∙ d.if-number-ne-PASSED.false
-
-pub returns-then-number-ne-PASSED : goal.returns-then-number-ne-PASSED
-returns-then-number-ne-PASSED c =
+pub returns-in_err-format-clause-number : goal.returns-in_err-format-clause-number
+returns-in_err-format-clause-number c =
     let a = c.args in
-    c.check_encode-number.ensures ∙ encode_first a.format a.block.now a.work a.out a.memory.now a.held (λ e. c.if-number-ne-PASSED.true (c.check_encode-number.ensures ∙ e))
+    let p = err_from_is_err_and c.from_residual.result c.from_residual.ensures.1 in
+    let e = c.in_err-format.ensures.number in
+    rw (p.1, p.2) (e ∙ encode_first a.format a.block.now a.work a.out a.memory.now a.held (λ z. not_passed _ (e ∙ z)))
 
-pub parameters-f-requires : goal.parameters-f-requires
-parameters-f-requires c = (encode_passed _ _ _ _ (encodes (goal.at.parameters-f-requires c).Else-number-ne-PASSED)).known
+pub returns-then-memory-size-clause-number : goal.returns-then-memory-size-clause-number
+returns-then-memory-size-clause-number c =
+    let known = c.in_ok-format.ensures in
+    short _ _ _ _ c.args.memory.now c.args.held (sym known.number) (c.record-size.ensures ∙ ap format_of known.format_value) c.if-memory-size.true
 
-pub returns-then-memory-f : goal.returns-then-memory-f
-returns-then-memory-f c =
-    let a = c.args in
-    short _ _ _ _ a.memory.now a.held (encodes (goal.at.returns-then-memory-f c).Else-number-ne-PASSED) c.parameters-f.ensures c.if-memory-f.true
+pub returns-then-not-holds-clause-number : goal.returns-then-not-holds-clause-number
+returns-then-not-holds-clause-number c =
+    let known = c.in_ok-format.ensures in
+    wrong_entry _ _ _ _ c.args.memory.now c.args.held (sym known.number) (c.record-size.ensures ∙ ap format_of known.format_value) c.if-memory-size.false
+    c.if-held-size.true (sym (rw known.format_value at c.if-not-holds.ensures))
 
-pub returns-then-held-f : goal.returns-then-held-f
-returns-then-held-f c =
-    let a = c.args in
-    other_size _ _ _ _ a.memory.now a.held (encodes (goal.at.returns-then-held-f c).Else-number-ne-PASSED) c.parameters-f.ensures c.if-memory-f.false c.if-held-f.true
-
-pub holds-requires : goal.holds-requires
-holds-requires c =
-    ((encode_passed _ _ _ _ (encodes (goal.at.holds-requires c).Else-number-ne-PASSED)).known, omega (arith, c.if-memory-f.false, ap (λ (c : Format). c.i) c.parameters-f.ensures))
-
-pub returns-then-not-holds : goal.returns-then-not-holds
-returns-then-not-holds c =
-    let a = c.args in
-    wrong_entry _ _ _ _ a.memory.now a.held (encodes (goal.at.returns-then-not-holds c).Else-number-ne-PASSED) c.parameters-f.ensures c.if-memory-f.false c.if-held-f.false
-    (sym c.holds.ensures ∙ c.if-not-holds.true)
-
-pub returns : goal.returns
-returns c =
-    let a = c.args in
-    right_entries _ _ _ _ a.memory.now a.held (encodes (goal.at.returns c).Else-number-ne-PASSED) c.parameters-f.ensures c.if-memory-f.false c.if-held-f.false
-    (sym c.holds.ensures ∙ c.if-not-holds.false)
+pub returns-clause-number : goal.returns-clause-number
+returns-clause-number c =
+    let known = c.in_ok-format.ensures in
+    let is = c.record-size.ensures ∙ ap format_of known.format_value in
+    elim c.else-held-size.branch [
+      else-held-size-via-then-held-size+else-not-holds w ↦
+          right_entries _ _ _ _ c.args.memory.now c.args.held (sym known.number) is c.if-memory-size.false w.if-held-size.true
+          (sym (rw known.format_value at w.if-not-holds.ensures))
+      | else-held-size-via-else-held-size w ↦
+          other_size _ _ _ _ c.args.memory.now c.args.held (sym known.number) is c.if-memory-size.false w.if-held-size.false
+    ]

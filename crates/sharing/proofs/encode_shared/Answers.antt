@@ -4,106 +4,113 @@ use mathlib.Core.Path.{◌≡◌, refl, sym, ap, ap₂, ◌∙◌}
 use mathlib.Core.List.{List, ◌++◌}
 use Prim.Native.Nat.{ℕ}
 use native.Mathlib.Omega.{arith}
-use lib.ListN.{length, take, drop}
+use lib.ListN.{length, drop}
+use Rattle.std.proofs.lemmas.Result.{err_from_is_err_and}
 use Rattle.bits.specs.Checks.{passed}
-use Rattle.bits.proofs.Passed.{when_passed, when_refused}
+use Rattle.bits.proofs.Passed.{when_passed}
+use Rattle.bits.proofs.Refusals.{when_err}
 use Rattle.acm.specs.Formats.{format_of, N1}
-use Rattle.trellis.specs.Trellis.{outer}
 use Rattle.interleaver.proofs.Expanded.{built_holds}
 use Rattle.inner.specs.Registers.{from_outer}
-use Rattle.encoder.specs.Codeword.{trellis_part}
 use Rattle.encoder.specs.Calls.{encode_workspace, encode_output}
-use Rattle.encoder.proofs.Checked.{EncodePassed, encode_passed}
-use Rattle.encoder.proofs.Codewords.{part-even, lent_is, lent_long, outer-long, trellis-room, both-written}
-use Rattle.sharing.specs.Calls.{shared_number, shared, shared_memory, shared_workspace, shared_output}
-use Rattle.sharing.specs.declared.Shared.{Shared}
-use Rattle.sharing.proofs.Checked.{SharedPassed, shared-passed}
-use Rattle.sharing.proofs.encode_shared.Goals.{After-parameters-f, Else-number-ne-PASSED, Then-number-ne-PASSED}
+use Rattle.encoder.proofs.Checked.{encode_passed}
+use Rattle.encoder.proofs.Codewords.{part-even, lent_is, lent_long, outer-long, trellis-room, work-written, both-written}
+use Rattle.sharing.specs.Calls.{Shared, shared, shared_memory, shared_workspace, shared_output}
+use Rattle.sharing.proofs.Checked.{SharedPassed, shared_passed-at}
 use Rattle.sharing.proofs.encode_shared.Goals as goal
 
--- what a call that has passed knows of its arguments
-module _ (d : Else-number-ne-PASSED) where
-  zero : shared_number d.args.format d.args.block.now (length d.args.work.now) (length d.args.out.now) d.args.memory.now d.args.held ≡ passed
-  zero = sym d.check_shared-number.ensures ∙ d.if-number-ne-PASSED.false
+pub returns-in_err-format-clause-answer : goal.returns-in_err-format-clause-answer
+unfolding shared
+returns-in_err-format-clause-answer c =
+    let p = err_from_is_err_and c.from_residual.result c.from_residual.ensures.1 in
+    let e = c.in_err-format.ensures.number in
+    rw (p.1, p.2) (ap {B = Shared} (λ (n : ℕ). (record { number = n; held = c.args.held })) e ∙ when_err _ _ _ _ e)
 
-  sound : SharedPassed d.args.format d.args.block.now (length d.args.work.now) (length d.args.out.now) d.args.memory.now d.args.held
-  sound = shared-passed _ _ _ _ _ _ zero
+pub returns-in_err-format-clause-workspace : goal.returns-in_err-format-clause-workspace
+unfolding shared_workspace
+returns-in_err-format-clause-workspace c = when_err _ _ _ _ c.in_err-format.ensures.number
 
-  encodes : EncodePassed d.args.format d.args.block.now (length d.args.work.now) (length d.args.out.now)
-  encodes = encode_passed _ _ _ _ sound.encodes
+pub returns-in_err-format-clause-output : goal.returns-in_err-format-clause-output
+unfolding shared_output
+returns-in_err-format-clause-output c = when_err _ _ _ _ c.in_err-format.ensures.number
 
--- the part of the block that is lent to the outer trellis, and how many of its bits are kept
-module _ (p : After-parameters-f) where
-  abbrev part : List ℕ
-  part = trellis_part p.args.format p.args.block.now
+pub returns-in_err-format-clause-interleaver : goal.returns-in_err-format-clause-interleaver
+unfolding shared_memory
+returns-in_err-format-clause-interleaver c = when_err _ _ _ _ c.in_err-format.ensures.number
 
-  part-is : take p.parameters-f.result.k1 p.args.block.now ≡ part
-  part-is = lent_is _ _ p.parameters-f.ensures
-
-  long : EncodePassed p.args.format p.args.block.now (length p.args.work.now) (length p.args.out.now) → length (outer part) ≡ (format_of p.args.format).i
-  long h = outer-long _ h.known p.args.block.now h.long
-
--- a refused call's number is not 0
-refused : (c : Then-number-ne-PASSED)
-    → (let a = c.args in shared_number a.format a.block.now (length a.work.now) (length a.out.now) a.memory.now a.held ≡ passed → ⊥)
-refused c e = c.if-number-ne-PASSED.true (c.check_shared-number.ensures ∙ e)
-
-pub returns-then-number-ne-PASSED : goal.returns-then-number-ne-PASSED
-unfolding shared shared_memory shared_workspace shared_output
-returns-then-number-ne-PASSED c =
-    let held = c.args.held in record {
-      answer = ap {B = Shared} (λ (n : ℕ). (record { number = n; held = held })) c.check_shared-number.ensures ∙ when_refused _ _ _ (refused (goal.at.returns-then-number-ne-PASSED c).Then-number-ne-PASSED);
-      workspace = when_refused _ _ _ (refused (goal.at.returns-then-number-ne-PASSED c).Then-number-ne-PASSED);
-      output = when_refused _ _ _ (refused (goal.at.returns-then-number-ne-PASSED c).Then-number-ne-PASSED);
-      interleaver = when_refused _ _ _ (refused (goal.at.returns-then-number-ne-PASSED c).Then-number-ne-PASSED);
-    }
-
-pub prepare-held-requires : goal.prepare-held-requires
-prepare-held-requires c =
-    ((encodes (goal.at.prepare-held-requires c).Else-number-ne-PASSED).known, (sound (goal.at.prepare-held-requires c).Else-number-ne-PASSED).room, (sound (goal.at.prepare-held-requires c).Else-number-ne-PASSED).holds)
+pub prepare-size-requires : goal.prepare-size-requires
+prepare-size-requires c =
+    let s = shared_passed-at c.in_ok-format.ensures.known c.in_ok-format.ensures.number in
+    (s.room, s.holds)
 
 pub put_pieces-requires : goal.put_pieces-requires
 put_pieces-requires c =
-    let h = encodes (goal.at.put_pieces-requires c).Else-number-ne-PASSED in
-    (h.known, h.long, h.bits, h.out-fits)
-
-pub parameters-f-requires : goal.parameters-f-requires
-parameters-f-requires c = (encodes (goal.at.parameters-f-requires c).Else-number-ne-PASSED).known
+    let s = shared_passed-at c.in_ok-format.ensures.known c.in_ok-format.ensures.number in
+    let p = encode_passed _ _ _ _ s.encodes in
+    (p.long, p.bits, p.out-fits)
 
 pub slice_bounds-outer-end : goal.slice_bounds-outer-end
 slice_bounds-outer-end c =
-    let h = encodes (goal.at.slice_bounds-outer-end c).Else-number-ne-PASSED in
-    sym (lent_long _ h.known c.args.block.now h.long c.parameters-f.ensures)
+    let s = shared_passed-at c.in_ok-format.ensures.known c.in_ok-format.ensures.number in
+    let p = encode_passed _ _ _ _ s.encodes in
+    sym (lent_long _ p.known c.args.block.now p.long c.record-k1.ensures)
 
-pub outer-requires : goal.outer-requires
-outer-requires c =
-    let h = encodes (goal.at.outer-requires c).Else-number-ne-PASSED in
-    rw (part-is (goal.at.outer-requires c).After-parameters-f) (record {
-      block_len = part-even _ h.known c.args.block.now h.long;
-      block_in_bounds = omega (arith, long (goal.at.outer-requires c).After-parameters-f h, h.work-fits);
-    })
+pub outer-requires-clause-block_len : goal.outer-requires-clause-block_len
+outer-requires-clause-block_len c =
+    let s = shared_passed-at c.in_ok-format.ensures.known c.in_ok-format.ensures.number in
+    let p = encode_passed _ _ _ _ s.encodes in
+    rw (lent_is _ c.args.block.now c.record-k1.ensures) (part-even _ p.known c.args.block.now p.long)
+
+pub outer-requires-clause-block_in_bounds : goal.outer-requires-clause-block_in_bounds
+outer-requires-clause-block_in_bounds c =
+    let s = shared_passed-at c.in_ok-format.ensures.known c.in_ok-format.ensures.number in
+    let p = encode_passed _ _ _ _ s.encodes in
+    rw (lent_is _ c.args.block.now c.record-k1.ensures) (omega (arith, outer-long _ p.known c.args.block.now p.long, p.work-fits))
 
 pub encode-requires : goal.encode-requires
 encode-requires c =
-    let h = encodes (goal.at.encode-requires c).Else-number-ne-PASSED in
-    let f = c.args.format in (
-      h.known,
-      rw c.prepare-held.ensures.memory_after (built_holds f f h.known h.known refl _),
-      omega (arith, c.outer.auto.work, h.work-fits),
-      trellis-room _ h.known (omega (arith, c.put_pieces.auto.out, h.out-fits)),
+    let n = c.in_ok-format.format.number in
+    let s = shared_passed-at c.in_ok-format.ensures.known c.in_ok-format.ensures.number in
+    let p = encode_passed _ _ _ _ s.encodes in (
+      rw c.prepare-size.ensures.memory_after (built_holds n n p.known p.known refl _),
+      omega (arith, c.outer.auto.work, p.work-fits),
+      trellis-room _ p.known (omega (arith, c.put_pieces.auto.out, p.out-fits)),
     )
 
-pub returns : goal.returns
-unfolding shared shared_memory shared_workspace shared_output encode_workspace encode_output
-returns c =
-    let a = c.args in
-    let h = encodes (goal.at.returns c).Else-number-ne-PASSED in
-    let work = c.outer.ensures ∙ ap (λ (l : List ℕ). outer l ++ drop (length (outer l)) a.work.now) (part-is (goal.at.returns c).After-parameters-f) in record {
-      answer = ap {B = Shared} (λ (size : ℕ). (record { number = passed; held = size })) c.prepare-held.ensures.value ∙ when_passed _ _ _ (zero (goal.at.returns c).Else-number-ne-PASSED);
-      workspace = work ∙ ap (λ (n : ℕ). outer (part (goal.at.returns c).After-parameters-f) ++ drop n a.work.now) (long (goal.at.returns c).After-parameters-f h) ∙ when_passed _ _ _ (sound (goal.at.returns c).Else-number-ne-PASSED).encodes ∙ when_passed _ _ _ (zero (goal.at.returns c).Else-number-ne-PASSED);
-      output = c.encode.ensures
-          ∙ ap₂ (λ (l out : List ℕ). from_outer a.format l ++ drop (N1 (format_of a.format)) out) work c.put_pieces.ensures
-          ∙ both-written a.format h.known a.block.now h.long _ a.out.now h.out-fits
-          ∙ when_passed _ _ _ (sound (goal.at.returns c).Else-number-ne-PASSED).encodes ∙ when_passed _ _ _ (zero (goal.at.returns c).Else-number-ne-PASSED);
-      interleaver = c.prepare-held.ensures.memory_after ∙ when_passed _ _ _ (zero (goal.at.returns c).Else-number-ne-PASSED);
-    }
+pub returns-clause-answer : goal.returns-clause-answer
+unfolding shared
+returns-clause-answer c =
+    let is = c.in_ok-format.ensures.known in
+    ap {B = Shared} (λ (size : ℕ). (record { number = passed; held = size })) (c.prepare-size.ensures.value ∙ ap (λ (f : ℕ). (format_of f).i) is)
+    ∙ when_passed _ _ _ (sym c.in_ok-format.ensures.number)
+
+pub returns-clause-workspace : goal.returns-clause-workspace
+unfolding shared_workspace encode_workspace
+returns-clause-workspace c =
+    let is = c.in_ok-format.ensures.known in
+    let s = shared_passed-at is c.in_ok-format.ensures.number in
+    let p = encode_passed _ _ _ _ s.encodes in
+    rw (← is) (
+      c.outer.ensures ∙ work-written _ p.known c.args.block.now p.long c.args.work.now c.record-k1.ensures
+      ∙ when_passed _ _ _ s.encodes ∙ when_passed _ _ _ s.passes
+    )
+
+pub returns-clause-output : goal.returns-clause-output
+unfolding shared_output encode_output
+returns-clause-output c =
+    let n = c.in_ok-format.format.number in
+    let is = c.in_ok-format.ensures.known in
+    let s = shared_passed-at is c.in_ok-format.ensures.number in
+    let p = encode_passed _ _ _ _ s.encodes in
+    rw (← is) (
+      c.encode.ensures
+      ∙ ap₂ (λ (l out : List ℕ). from_outer n l ++ drop (N1 (format_of n)) out)
+      (c.outer.ensures ∙ work-written _ p.known c.args.block.now p.long c.args.work.now c.record-k1.ensures) c.put_pieces.ensures
+      ∙ both-written n p.known c.args.block.now p.long _ c.args.out.now p.out-fits
+      ∙ when_passed _ _ _ s.encodes ∙ when_passed _ _ _ s.passes
+    )
+
+pub returns-clause-interleaver : goal.returns-clause-interleaver
+unfolding shared_memory
+returns-clause-interleaver c =
+    c.prepare-size.ensures.memory_after ∙ rw c.in_ok-format.ensures.known (when_passed _ _ _ (sym c.in_ok-format.ensures.number))

@@ -4,10 +4,6 @@ use Rattle.acm.specs.declared.table.Format.{Format}
 use Rattle.interleaver.proofs.Expanded.{holds_already}
 use Rattle.sharing.proofs.prepare.Goals as goal
 
-pub returns-else-held-size : goal.returns-else-held-size
-returns-else-held-size c =
-    let size = ap (λ (r : Format). r.i) c.parameters-f.ensures in
-    record {
-      value = size;
-      memory_after = holds_already c.args.format c.args.memory.now (c.requires.2 (c.if-held-size.false ∙ size));
-    }
+pub returns-else-held-size-clause-memory_after : goal.returns-else-held-size-clause-memory_after
+returns-else-held-size-clause-memory_after c =
+    holds_already c.args.format.number c.args.memory.now (c.requires.1 (c.if-held-size.false ∙ ap (λ (r : Format). r.i) c.record-size.ensures))
