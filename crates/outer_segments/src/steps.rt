@@ -76,13 +76,12 @@ fn segment(from: State, bits: &[u8], i: usize, work: &mut [u8]) -> State
     ensures work_after { work.new ≡ sets work.old (kept_before i) (kept_from i from bits.now) }
 {
     let mut state = from;
-    let mut n = i + (i + 1) / 2;
     for (k, &u) in bits.iter().enumerate() {
-        work[n] = u;
-        n += 1;
-        if (i + k) % 2 == 0 {
-            work[n] = state.parity(u);
-            n += 1;
+        let step = i + k;
+        let at = step + (step + 1) / 2;
+        work[at] = u;
+        if step % 2 == 0 {
+            work[at + 1] = state.parity(u);
         }
         state = state.next(u);
     }

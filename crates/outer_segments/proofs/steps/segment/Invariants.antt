@@ -8,5 +8,5 @@ use Rattle.outer_segments.proofs.steps.segment.Given as goal
 abbrev pub invariant-loop-k : goal.invariant-loop-k
 invariant-loop-k l = record {
   goes : ends l.state (drop l.k l.bits) ≡ ends l.fn.from l.bits;
-  left : Left l.initial.work (kept_before l.i) (kept_from l.i l.fn.from l.bits) l.work l.n (kept_from (l.i + l.k) l.state (drop l.k l.bits));
+  left : Left l.initial.work (kept_before l.i) (kept_from l.i l.fn.from l.bits) l.work (kept_before (l.i + l.k)) (kept_from (l.i + l.k) l.state (drop l.k l.bits));
 }
