@@ -4,52 +4,29 @@ use mathlib.Core.Bool.{true}
 use mathlib.Core.List.{List, [], ◌∷◌, ◌++◌}
 use Prim.Native.Nat.{ℕ, ◌≤◌}
 use borrow.Author.Tests.{leb-true, eqb-true}
-use lib.Dec.{lit<, eqb, leb}
+use lib.Dec.{lit<, eqb}
 use lib.ListN.{length}
-use Rattle.bits.specs.Checks.{Check, ◌or_else◌, first_failed, check_number, passed, bad_length, bad_element, short_workspace, short_output}
+use Rattle.bits.specs.Checks.{Check, ◌or_else◌, first_failed, check_number, passed, bad_length, bad_element}
 use Rattle.bits.specs.declared.checks.Refusal.{Refusal}
 use Rattle.bits.specs.Legal.{all_bits}
-use Rattle.bits.proofs.Passed.{passes, fails_first, fails_later}
+use Rattle.bits.proofs.Passed.{passes, fails_first}
 use Rattle.bits.proofs.Refusals.{not_passed}
 use Rattle.acm.specs.Formats.{symbols, is_format, format_of}
-use Rattle.acm.specs.declared.table.Format.{Format}
 use Rattle.encoder.specs.Calls.{encode_checks, encode_number, labels_checks, labels_number}
 
 -- a list of n bits
 abbrev pub bits_checks : List ℕ → ℕ → List Check
 bits_checks list n = eqb (length list) n or_else bad_length ∷ all_bits list or_else bad_element ∷ []
 
--- what stands behind those checks is asked only if they hold
-module _ (list : List ℕ) (n : ℕ) (rooms : List Check) where
-  refused_there : (e : Refusal) → check_number e ≡ first_failed (bits_checks list n) → check_number e ≡ first_failed (bits_checks list n ++ rooms)
-  refused_there e h = h ∙ sym (fails_first (bits_checks list n) rooms (λ p. not_passed e (h ∙ p)))
+pub bits-passed : (list : List ℕ) (n : ℕ) → passed ≡ first_failed (bits_checks list n) → (eqb (length list) n ≡ true) × (all_bits list ≡ true)
+bits-passed list n e =
+    let part = passes (bits_checks list n) (true or_else passed) refl (sym e) in
+    (part 0 (lit< tt), part 1 (lit< tt))
 
-  passed_there : passed ≡ first_failed (bits_checks list n) → first_failed rooms ≡ first_failed (bits_checks list n ++ rooms)
-  passed_there h = sym (fails_later (bits_checks list n) rooms refl (sym h))
-
--- the room that a call of a known format needs
-abbrev pub encode_rooms : Format → ℕ → ℕ → List Check
-encode_rooms r work_room out_room = leb r.i work_room or_else short_workspace ∷ leb r.n out_room or_else short_output ∷ []
-
-abbrev pub labels_rooms : ℕ → List Check
-labels_rooms room = leb symbols room or_else short_output ∷ []
-
-module _ (f : ℕ) (known : is_format f ≡ true) {r : Format} (is : r ≡ format_of f) where
-  pub encode_refused : (block : List ℕ) (work out : ℕ) (e : Refusal) → check_number e ≡ first_failed (bits_checks block r.k) → check_number e ≡ encode_number f block work out
-  unfolding encode_number
-  encode_refused block work out e h = rw (known, ← is) (refused_there block r.k (encode_rooms r work out) e h)
-
-  pub encode_room : (block : List ℕ) (work out : ℕ) → passed ≡ first_failed (bits_checks block r.k) → first_failed (encode_rooms r work out) ≡ encode_number f block work out
-  unfolding encode_number
-  encode_room block work out h = rw (known, ← is) (passed_there block r.k (encode_rooms r work out) h)
-
-  pub labels-refused : (codeword : List ℕ) (room : ℕ) (e : Refusal) → check_number e ≡ first_failed (bits_checks codeword r.n) → check_number e ≡ labels_number f codeword room
-  unfolding labels_number
-  labels-refused codeword room e h = rw (known, ← is) (refused_there codeword r.n (labels_rooms room) e h)
-
-  pub labels-room : (codeword : List ℕ) (room : ℕ) → passed ≡ first_failed (bits_checks codeword r.n) → first_failed (labels_rooms room) ≡ labels_number f codeword room
-  unfolding labels_number
-  labels-room codeword room h = rw (known, ← is) (passed_there codeword r.n (labels_rooms room) h)
+-- if one of these fails, what stands behind them is not asked
+pub bits-refused : (list : List ℕ) (n : ℕ) (rooms : List Check) (r : Refusal) → check_number r ≡ first_failed (bits_checks list n)
+    → check_number r ≡ first_failed (bits_checks list n ++ rooms)
+bits-refused list n rooms r e = e ∙ sym (fails_first (bits_checks list n) rooms (λ p. not_passed r (e ∙ p)))
 
 pub record EncodePassed (f : ℕ) (block : List ℕ) (work_room out_room : ℕ) : Type 0 where
   pub known : is_format f ≡ true

@@ -34,8 +34,8 @@ module _ (pat : List ℕ) (long : length pat ≡ period) where
       let r : j % period ≡ j - 2 * period = omega arith in
       rw r (behind (pat ++ pat) j (j - period) (omega arith) ∙ behind pat (j - period) (j - 2 * period) (omega arith))))
 
-thrice : (S : ℕ) → LaidOut S (pattern S ++ (pattern S ++ pattern S))
-thrice S = record {
+laid_thrice : (S : ℕ) → LaidOut S (pattern S ++ (pattern S ++ pattern S))
+laid_thrice S = record {
   long = omega (arith, length-append (pattern S) (pattern S ++ pattern S), length-append (pattern S) (pattern S), pattern-length S);
   entry = thrice-entry (pattern S) (pattern-length S);
 }
@@ -70,7 +70,7 @@ module _ (S : ℕ) (out pat one two : List ℕ) (long : length out ≡ 3 * perio
       let at_most : length rest ≤ period = omega (arith, rest-length) in
       let none : drop period rest ≡ [] = drop_of_length-le rest at_most in
       rw (two_copies, third, is, take_at (p ++ p) rest (2 * period) twice_length, drop_at (p ++ p) rest (2 * period) twice_length, none, append-nil p, append_assoc p p p)
-      (thrice S)
+      (laid_thrice S)
 
 -- any number below three periods that leaves what p leaves has p's mark
 pub laid_survives : (S : ℕ) (l : List ℕ) → LaidOut S l → (r p : ℕ) → r < 3 * period → r % period ≡ p % period → eqb (get_or l r 0) 1 ≡ survives S p
