@@ -20,31 +20,29 @@ mod row;
 const ROOM: usize = 4096;
 
 fn main(rt: HostRuntime) -> io::Result<()> {
-    let mut input = [0u8; ROOM];
-    let n = read_full(&rt, &mut input);
-    let Ok(text) = str::from_utf8(&input[..n]) else {
+    let mut buffer = [0; ROOM];
+    let Ok(text) = str::from_utf8(read_full(&rt, &mut buffer)) else {
         return Err(io::Error::from(io::ErrorKind::InvalidData));
     };
     run(&rt, text)?;
     lines::run(&rt)
 }
 
-// Reads until out is full, the input ends or a read fails, and answers how many bytes are at the front of out.
-// A loop over read: std's reader of lines needs the heap, and read_exact wants to know where the input ends. bench has the same; the two share
-// no crate that reads.
-fn read_full(rt: &impl Input, out: &mut [u8]) -> usize
-    ensures { result ≤ length out.new }
+// Reads until the buffer is full, the input ends or a read fails, and answers what was read.
+// A loop over read: std's reader of lines needs the heap, and read_exact leaves open how far it came. crates/bench has its twin, since it stands
+// on no crate of the tests.
+fn read_full<'a>(rt: &impl Input, buffer: &'a mut [u8]) -> &'a [u8]
+    ensures { length result.now ≤ length buffer.old }
 {
     let mut from = rt.reader();
     let mut done = 0;
-    while done < out.len() {
-        let n = from.read(&mut out[done..]).unwrap_or(0);
-        if n == 0 {
-            break;
+    while done < buffer.len() {
+        match from.read(&mut buffer[done..]) {
+            Ok(0) | Err(_) => break,
+            Ok(n) => done += n,
         }
-        done += n;
     }
-    done
+    &buffer[..done]
 }
 
 fn run(rt: &impl Print, text: &str) -> io::Result<()> {
