@@ -9,7 +9,7 @@ use lib.ListN.{length}
 use Rattle.bits.specs.Checks.{◌or_else◌, first_failed, passed, many_cuts, bad_cut}
 use Rattle.bits.specs.Legal.{all_bits}
 use Rattle.bits.proofs.Cases.{by_cases}
-use Rattle.bits.proofs.Passed.{passes, when_passed, when_refused, passed-before}
+use Rattle.bits.proofs.Passed.{passes as passes-at, when_passed, when_refused, passed-before}
 use Rattle.bits.proofs.Table.{left-true, right_true}
 use Rattle.acm.specs.Formats.{is_format, format_of}
 use Rattle.acm.specs.declared.table.Format.{Format}
@@ -53,6 +53,7 @@ module _ (f : ℕ) (block : List ℕ) (work_room out_room : ℕ) (outer_list inn
         all_sound p q = rw (← cuts_later encodes, o, i, ← is, p, q)
 
   pub record SegmentsPassed : Type 0 where
+    pub passes : segments_number f block work_room out_room outer_list inner_list ≡ passed
     pub encodes : encode_number f block work_room out_room ≡ passed
     pub outer_cuts : Cuts (format_of f).k1 outer_list
     pub inner_cuts : Cuts (format_of f).i inner_list
@@ -61,10 +62,11 @@ module _ (f : ℕ) (block : List ℕ) (work_room out_room : ℕ) (outer_list inn
   unfolding segments_number
   segments-passed e =
       let encodes = passed-before (encode_number f block work_room out_room) (first_failed (cuts_checks f outer_list inner_list)) e in
-      let part = passes (cuts_checks f outer_list inner_list) (true or_else passed) refl (cuts_later encodes ∙ e) in
+      let part = passes-at (cuts_checks f outer_list inner_list) (true or_else passed) refl (cuts_later encodes ∙ e) in
       let few = part 0 (lit< tt) in
       let inside = part 1 (lit< tt) in
       record {
+        passes = e;
         encodes = encodes;
         outer_cuts = record {
           few = left-true (is_few outer_list) (is_few inner_list) few;
@@ -75,6 +77,11 @@ module _ (f : ℕ) (block : List ℕ) (work_room out_room : ℕ) (outer_list inn
           inside = right_true (is_inside (format_of f).k1 outer_list) (is_inside (format_of f).i inner_list) inside;
         };
       }
+
+pub segments_passed-at : {n f : ℕ} {block : List ℕ} {work_room out_room : ℕ} {outer_list inner_list : List ℕ} → n ≡ f
+    → passed ≡ segments_number f block work_room out_room outer_list inner_list → SegmentsPassed n block work_room out_room outer_list inner_list
+segments_passed-at {f = f} {block} {work_room} {out_room} {outer_list} {inner_list} is e =
+    rw is (segments-passed f block work_room out_room outer_list inner_list (sym e))
 
 -- with cuts that pass their checks the call is encode
 module _ (f : ℕ) (block : List ℕ) (outer_list inner_list : List ℕ) (o : Cuts (format_of f).k1 outer_list) (i : Cuts (format_of f).i inner_list) where

@@ -1,6 +1,7 @@
 -- Encoding by segments (document 02, L6): the number that the call answers, the states, and what it leaves in each buffer.
-use Rattle.std.specs.Prelude.{◌&&◌, List, [], ◌∷◌, ℕ, eqb, length, if◌then◌else◌}
-use Rattle.bits.specs.Checks.{Check, ◌or_else◌, first_failed, passed, many_cuts, bad_cut}
+use Rattle.std.specs.Prelude.{◌&&◌, List, [], ◌∷◌, ℕ, eqb, length, if◌then◌else◌, Result, Ok, Err}
+use Rattle.bits.specs.Checks.{Check, ◌or_else◌, check_number, first_failed, passed, many_cuts, bad_cut}
+use Rattle.bits.specs.declared.checks.Refusal.{Refusal}
 use Rattle.acm.specs.Formats.{format_of}
 use Rattle.trellis.specs.Trellis.{outer}
 use Rattle.interleaver.specs.Interleaver.{π}
@@ -8,7 +9,8 @@ use Rattle.inner.specs.Registers.{interleaved}
 use Rattle.encoder.specs.Codeword.{trellis_part}
 use Rattle.encoder.specs.Calls.{encode_number, encode_workspace, encode_output}
 use Rattle.cuts.specs.Cuts.{is_few, is_inside, states_of, no_states}
-use Rattle.segments.specs.declared.Segmented.{Segmented}
+use Rattle.cuts.specs.declared.States.{States}
+use Rattle.segments.specs.declared.Segmented as below
 
 -- the checks of the two lists of cuts
 abbrev pub cuts_checks : ℕ → List ℕ → List ℕ → List Check
@@ -24,8 +26,18 @@ segments_number f block work_room out_room outer_list inner_list =
     then first_failed (cuts_checks f outer_list inner_list)
     else encode_number f block work_room out_room
 
+-- an answer, as it is numbered: the states of the segments of each trellis, on refusal all 0
+pub record Segmented : Type 0 where
+  pub number : ℕ
+  pub outer : States
+  pub inner : States
+
 abbrev pub refused : ℕ → Segmented
 refused number = record { number = number; outer = no_states; inner = no_states }
+
+abbrev pub answer_of : Result below.Segmented Refusal → Segmented
+answer_of (Ok s) = record { number = passed; outer = s.outer; inner = s.inner }
+answer_of (Err refusal) = refused (check_number refusal)
 
 -- the input of the outer trellis is the trellis part of the block, that of the inner one the interleaved outer kept bits
 unfoldable pub segmented : ℕ → List ℕ → ℕ → ℕ → List ℕ → List ℕ → Segmented

@@ -2,16 +2,17 @@
 // states are worked out from where these runs end, and each segment is run again from its own.
 #![tactic(auto)]
 
-ghost use Rattle.std.specs.Prelude.{◌≡◌, length};
-ghost use Rattle.segments.specs.Calls.{segments_number, segmented, segments_workspace, segments_output};
+ghost use Rattle.std.specs.Prelude.{◌≡◌, length, IfOk};
+ghost use Rattle.bits.specs.Checks.{number_of};
+ghost use Rattle.segments.specs.Calls.{segments_number, answer_of, segmented, segments_workspace, segments_output};
 
-use bits::checks;
+use acm::AcmFormat;
+use bits::Refusal;
 use cuts::States;
 
-// The answer: the check's number, and the states of the segments of each trellis.
-#[derive(Clone, Copy)]
+// The states of the segments of each trellis.
+#[derive(Clone, Copy, Debug, PartialEq, Eq)]
 pub struct Segmented {
-    pub number: u8,
     pub outer: States,
     pub inner: States,
 }
@@ -19,7 +20,7 @@ pub struct Segmented {
 // The codeword of an information block, by segments: the input of the outer trellis is cut at `outer`, that of the inner one at `inner`.
 // Checks: 1, 2, 3, 4, 5, as encode's; 12, each list has at most fifteen cuts; 13, in each list no cut falls below the one before it, and
 // none is above the input's length, K1 for the outer and I for the inner.
-// Afterwards the buffers are as encode leaves them; on refusal all bytes are as they were, and all states are 0.
+// Afterwards the buffers are as encode leaves them; on refusal all bytes are as they were.
 pub fn encode_segments(
     format: u64,
     block: &[u8],
@@ -27,32 +28,23 @@ pub fn encode_segments(
     out: &mut [u8],
     outer: &[u16],
     inner: &[u16],
-) -> Segmented
-    ensures answer { result ≡ segmented format block.now (length work.old) (length out.old) outer.now inner.now }
+) -> Result<Segmented, Refusal>
+    ensures answer { answer_of result ≡ segmented format block.now (length work.old) (length out.old) outer.now inner.now }
     ensures workspace { work.new ≡ segments_workspace format block.now work.old out.old outer.now inner.now }
     ensures output { out.new ≡ segments_output format block.now work.old out.old outer.now inner.now }
 {
-    let number = check_segments(format, block, work.len(), out.len(), outer, inner);
-    if number != checks::PASSED {
-        return Segmented {
-            number,
-            outer: cuts::steps::no_states(),
-            inner: cuts::steps::no_states(),
-        };
-    }
+    let format = check_segments(format, block, work.len(), out.len(), outer, inner)?;
     encoder::steps::put_pieces(format, block, out);
-    let f = acm::steps::parameters(format);
-    let k1 = f.k1;
+    let k1 = format.record().k1;
     let of_outer = outer_segments::steps::encode(&block[..k1], outer, work);
     let of_inner = inner_segments::steps::encode(format, inner, work, out);
-    Segmented {
-        number: checks::PASSED,
+    Ok(Segmented {
         outer: of_outer,
         inner: of_inner,
-    }
+    })
 }
 
-// The number of the first check of encode_segments that fails, 0 if none does.
+// The format of a call that encode_segments takes, or the first of its checks that fails.
 fn check_segments(
     format: u64,
     block: &[u8],
@@ -60,25 +52,23 @@ fn check_segments(
     out: usize,
     outer: &[u16],
     inner: &[u16],
-) -> u8
-    ensures { result ≡ segments_number format block.now work out outer.now inner.now }
+) -> Result<AcmFormat, Refusal>
+    ensures number { number_of result ≡ segments_number format block.now work out outer.now inner.now }
+    ensures known { IfOk result (λ f. f.number ≡ format) }
 {
-    let number = encoder::check_encode(format, block, work, out);
-    if number != checks::PASSED {
-        return number;
-    }
+    let format = encoder::check_encode(format, block, work, out)?;
     if !cuts::few(outer) {
-        return checks::CUT_COUNT;
+        return Err(Refusal::CutCount);
     }
     if !cuts::few(inner) {
-        return checks::CUT_COUNT;
+        return Err(Refusal::CutCount);
     }
-    let f = acm::steps::parameters(format);
+    let f = format.record();
     if !cuts::inside(f.k1, outer) {
-        return checks::CUT_PLACE;
+        return Err(Refusal::CutPlace);
     }
     if !cuts::inside(f.i, inner) {
-        return checks::CUT_PLACE;
+        return Err(Refusal::CutPlace);
     }
-    checks::PASSED
+    Ok(format)
 }

@@ -5,111 +5,126 @@ use mathlib.Core.List.{List, ◌++◌}
 use Prim.Native.Nat.{ℕ}
 use native.Mathlib.Omega.{arith}
 use lib.ListN.{length, take, drop}
+use Rattle.std.proofs.lemmas.Result.{err_from_is_err_and}
 use Rattle.bits.specs.Checks.{passed}
-use Rattle.bits.proofs.Passed.{when_passed, when_refused}
+use Rattle.bits.proofs.Passed.{when_passed}
+use Rattle.bits.proofs.Refusals.{when_err}
 use Rattle.acm.specs.Formats.{format_of, N1}
 use Rattle.trellis.specs.Trellis.{outer}
 use Rattle.interleaver.specs.Interleaver.{π}
 use Rattle.inner.specs.Registers.{interleaved, from_outer}
 use Rattle.encoder.specs.Codeword.{trellis_part}
 use Rattle.encoder.specs.Calls.{encode_workspace, encode_output}
-use Rattle.encoder.proofs.Checked.{EncodePassed, encode_passed}
-use Rattle.encoder.proofs.Codewords.{part-bits, part-long, part-even, lent_is, lent_long, outer-long, trellis-room, both-written}
+use Rattle.encoder.proofs.Checked.{encode_passed}
+use Rattle.encoder.proofs.Codewords.{part-bits, part-long, part-even, lent_is, lent_long, outer-long, trellis-room, work-written, both-written}
 use Rattle.cuts.specs.Cuts.{Cuts, states_of}
 use Rattle.cuts.specs.declared.States.{States}
-use Rattle.segments.specs.Calls.{segments_number, refused as refusal, segmented, segments_workspace, segments_output}
-use Rattle.segments.specs.declared.Segmented.{Segmented}
-use Rattle.segments.proofs.Checked.{SegmentsPassed, segments-passed, work-read, work-bits}
-use Rattle.segments.proofs.encode_segments.Goals.{After-parameters-f, Else-number-ne-PASSED, Then-number-ne-PASSED}
+use Rattle.segments.specs.Calls.{Segmented, refused, segmented, segments_workspace, segments_output}
+use Rattle.segments.proofs.Checked.{SegmentsPassed, segments_passed-at, work-read, work-bits}
 use Rattle.segments.proofs.encode_segments.Goals as goal
 
--- what a call that has passed knows of its arguments
-module _ (d : Else-number-ne-PASSED) where
-  zero : segments_number d.args.format d.args.block.now (length d.args.work.now) (length d.args.out.now) d.args.outer.now d.args.inner.now ≡ passed
-  zero = sym d.check_segments-number.ensures ∙ d.if-number-ne-PASSED.false
+pub returns-in_err-format-clause-answer : goal.returns-in_err-format-clause-answer
+unfolding segmented
+returns-in_err-format-clause-answer c =
+    let p = err_from_is_err_and c.from_residual.result c.from_residual.ensures.1 in
+    let e = c.in_err-format.ensures.number in
+    rw (p.1, p.2) (ap refused e ∙ when_err _ _ _ _ e)
 
-  sound : SegmentsPassed d.args.format d.args.block.now (length d.args.work.now) (length d.args.out.now) d.args.outer.now d.args.inner.now
-  sound = segments-passed _ _ _ _ _ _ zero
+pub returns-in_err-format-clause-workspace : goal.returns-in_err-format-clause-workspace
+unfolding segments_workspace
+returns-in_err-format-clause-workspace c = when_err _ _ _ _ c.in_err-format.ensures.number
 
-  encodes : EncodePassed d.args.format d.args.block.now (length d.args.work.now) (length d.args.out.now)
-  encodes = encode_passed _ _ _ _ sound.encodes
-
--- the part of the block that is lent to the outer trellis, and how many of its bits are kept
-module _ (p : After-parameters-f) where
-  abbrev part : List ℕ
-  part = trellis_part p.args.format p.args.block.now
-
-  part-is : take p.parameters-f.result.k1 p.args.block.now ≡ part
-  part-is = lent_is _ _ p.parameters-f.ensures
-
-  long : EncodePassed p.args.format p.args.block.now (length p.args.work.now) (length p.args.out.now) → length (outer part) ≡ (format_of p.args.format).i
-  long h = outer-long _ h.known p.args.block.now h.long
-
--- a refused call's number is not 0
-refused : (c : Then-number-ne-PASSED)
-    → (let a = c.args in segments_number a.format a.block.now (length a.work.now) (length a.out.now) a.outer.now a.inner.now ≡ passed → ⊥)
-refused c e = c.if-number-ne-PASSED.true (c.check_segments-number.ensures ∙ e)
-
-pub returns-then-number-ne-PASSED : goal.returns-then-number-ne-PASSED
-unfolding segmented segments_workspace segments_output
-returns-then-number-ne-PASSED c =
-    record {
-      answer = ap₂ {C = Segmented} (λ (o i : States). (record { number = c.check_segments-number.result; outer = o; inner = i })) c.no_states.ensures c.no_states-then-number-ne-PASSED.ensures
-          ∙ ap refusal c.check_segments-number.ensures ∙ when_refused _ _ _ (refused (goal.at.returns-then-number-ne-PASSED c).Then-number-ne-PASSED);
-      workspace = when_refused _ _ _ (refused (goal.at.returns-then-number-ne-PASSED c).Then-number-ne-PASSED);
-      output = when_refused _ _ _ (refused (goal.at.returns-then-number-ne-PASSED c).Then-number-ne-PASSED);
-    }
+pub returns-in_err-format-clause-output : goal.returns-in_err-format-clause-output
+unfolding segments_output
+returns-in_err-format-clause-output c = when_err _ _ _ _ c.in_err-format.ensures.number
 
 pub put_pieces-requires : goal.put_pieces-requires
 put_pieces-requires c =
-    let h = encodes (goal.at.put_pieces-requires c).Else-number-ne-PASSED in
-    (h.known, h.long, h.bits, h.out-fits)
-
-pub parameters-f-requires : goal.parameters-f-requires
-parameters-f-requires c = (encodes (goal.at.parameters-f-requires c).Else-number-ne-PASSED).known
+    let s = segments_passed-at c.in_ok-format.ensures.known c.in_ok-format.ensures.number in
+    let p = encode_passed _ _ _ _ s.encodes in
+    (p.long, p.bits, p.out-fits)
 
 pub slice_bounds-encode-end : goal.slice_bounds-encode-end
 slice_bounds-encode-end c =
-    let h = encodes (goal.at.slice_bounds-encode-end c).Else-number-ne-PASSED in
-    sym (lent_long _ h.known c.args.block.now h.long c.parameters-f.ensures)
+    let s = segments_passed-at c.in_ok-format.ensures.known c.in_ok-format.ensures.number in
+    let p = encode_passed _ _ _ _ s.encodes in
+    sym (lent_long _ p.known c.args.block.now p.long c.record-k1.ensures)
 
-pub encode-of_outer-requires : goal.encode-of_outer-requires
-encode-of_outer-requires c =
-    let h = encodes (goal.at.encode-of_outer-requires c).Else-number-ne-PASSED in
+pub encode-of_outer-requires-clause-block_len : goal.encode-of_outer-requires-clause-block_len
+encode-of_outer-requires-clause-block_len c =
     let a = c.args in
-    rw (part-is (goal.at.encode-of_outer-requires c).After-parameters-f) (record {
-      block_len = (
-        part-even _ h.known a.block.now h.long,
-        part-bits a.format a.block.now h.bits,
-        subst (λ (n : ℕ). Cuts n a.outer.now) (sym (part-long _ h.known a.block.now h.long)) (sound (goal.at.encode-of_outer-requires c).Else-number-ne-PASSED).outer_cuts,
-      );
-      block_in_bounds = omega (arith, long (goal.at.encode-of_outer-requires c).After-parameters-f h, h.work-fits);
-    })
+    let s = segments_passed-at c.in_ok-format.ensures.known c.in_ok-format.ensures.number in
+    let p = encode_passed _ _ _ _ s.encodes in
+    rw (lent_is _ a.block.now c.record-k1.ensures) (
+      part-even _ p.known a.block.now p.long,
+      part-bits _ a.block.now p.bits,
+      subst (λ (n : ℕ). Cuts n a.outer.now) (sym (part-long _ p.known a.block.now p.long)) s.outer_cuts,
+    )
 
-pub encode-of_inner-requires : goal.encode-of_inner-requires
-encode-of_inner-requires c =
-    let h = encodes (goal.at.encode-of_inner-requires c).Else-number-ne-PASSED in
-    let a = c.args in record {
-      format_value = (h.known, omega (arith, c.encode-of_outer.auto.work, h.work-fits), trellis-room _ h.known (omega (arith, c.put_pieces.auto.out, h.out-fits)));
-      cuts = (
-        (sound (goal.at.encode-of_inner-requires c).Else-number-ne-PASSED).inner_cuts,
-        rw (c.encode-of_outer.ensures.work_after, part-is (goal.at.encode-of_inner-requires c).After-parameters-f) (work-bits a.format h.known (part (goal.at.encode-of_inner-requires c).After-parameters-f) _ (long (goal.at.encode-of_inner-requires c).After-parameters-f h) (part-bits a.format a.block.now h.bits)),
-      );
-    }
+pub encode-of_outer-requires-clause-block_in_bounds : goal.encode-of_outer-requires-clause-block_in_bounds
+encode-of_outer-requires-clause-block_in_bounds c =
+    let s = segments_passed-at c.in_ok-format.ensures.known c.in_ok-format.ensures.number in
+    let p = encode_passed _ _ _ _ s.encodes in
+    rw (lent_is _ c.args.block.now c.record-k1.ensures) (omega (arith, outer-long _ p.known c.args.block.now p.long, p.work-fits))
 
-pub returns : goal.returns
-unfolding segmented segments_workspace segments_output encode_workspace encode_output
-returns c =
+pub encode-of_inner-requires-clause-lent : goal.encode-of_inner-requires-clause-lent
+encode-of_inner-requires-clause-lent c =
+    let s = segments_passed-at c.in_ok-format.ensures.known c.in_ok-format.ensures.number in
+    let p = encode_passed _ _ _ _ s.encodes in
+    (omega (arith, c.encode-of_outer.auto.work, p.work-fits), trellis-room _ p.known (omega (arith, c.put_pieces.auto.out, p.out-fits)))
+
+pub encode-of_inner-requires-clause-cuts : goal.encode-of_inner-requires-clause-cuts
+encode-of_inner-requires-clause-cuts c =
+    let n = c.in_ok-format.format.number in
+    let block = c.args.block.now in
+    let s = segments_passed-at c.in_ok-format.ensures.known c.in_ok-format.ensures.number in
+    let p = encode_passed _ _ _ _ s.encodes in (
+      s.inner_cuts,
+      rw (c.encode-of_outer.ensures.work_after, lent_is _ block c.record-k1.ensures)
+      (work-bits n p.known (trellis_part n block) _ (outer-long _ p.known block p.long) (part-bits _ block p.bits)),
+    )
+
+pub returns-clause-answer : goal.returns-clause-answer
+unfolding segmented
+returns-clause-answer c =
     let a = c.args in
-    let f = a.format in
-    let h = encodes (goal.at.returns c).Else-number-ne-PASSED in
-    let outer-states = c.encode-of_outer.ensures.value ∙ ap (states_of a.outer.now) (part-is (goal.at.returns c).After-parameters-f) in
-    let work = c.encode-of_outer.ensures.work_after ∙ ap (λ (l : List ℕ). outer l ++ drop (length (outer l)) a.work.now) (part-is (goal.at.returns c).After-parameters-f) in
-    let inner-states = c.encode-of_inner.ensures.value ∙ ap (λ (l : List ℕ). states_of a.inner.now (interleaved (format_of f) (π f) l)) work ∙ ap (states_of a.inner.now) (work-read f h.known (part (goal.at.returns c).After-parameters-f) _ (long (goal.at.returns c).After-parameters-f h)) in record {
-      answer = ap₂ {C = Segmented} (λ (o i : States). (record { number = passed; outer = o; inner = i })) outer-states inner-states ∙ when_passed _ _ _ (zero (goal.at.returns c).Else-number-ne-PASSED);
-      workspace = work ∙ ap (λ (n : ℕ). outer (part (goal.at.returns c).After-parameters-f) ++ drop n a.work.now) (long (goal.at.returns c).After-parameters-f h) ∙ when_passed _ _ _ (sound (goal.at.returns c).Else-number-ne-PASSED).encodes ∙ when_passed _ _ _ (zero (goal.at.returns c).Else-number-ne-PASSED);
-      output = c.encode-of_inner.ensures.out_after
-          ∙ ap₂ (λ (l out : List ℕ). from_outer f l ++ drop (N1 (format_of f)) out) work c.put_pieces.ensures
-          ∙ both-written f h.known a.block.now h.long _ a.out.now h.out-fits
-          ∙ when_passed _ _ _ (sound (goal.at.returns c).Else-number-ne-PASSED).encodes ∙ when_passed _ _ _ (zero (goal.at.returns c).Else-number-ne-PASSED);
-    }
+    let n = c.in_ok-format.format.number in
+    let is = c.in_ok-format.ensures.known in
+    let s = segments_passed-at is c.in_ok-format.ensures.number in
+    let p = encode_passed _ _ _ _ s.encodes in
+    let part = trellis_part n a.block.now in
+    let part-is = lent_is n a.block.now c.record-k1.ensures in
+    let outer-states = c.encode-of_outer.ensures.value ∙ ap (states_of a.outer.now) part-is in
+    let inner-states =
+        c.encode-of_inner.ensures.value
+        ∙ ap (λ (l : List ℕ). states_of a.inner.now (interleaved (format_of n) (π n) l))
+          (c.encode-of_outer.ensures.work_after ∙ ap (λ (l : List ℕ). outer l ++ drop (length (outer l)) a.work.now) part-is)
+        ∙ ap (states_of a.inner.now) (work-read n p.known part _ (outer-long _ p.known a.block.now p.long)) in
+    ap₂ {C = Segmented} (λ (o i : States). (record { number = passed; outer = o; inner = i })) outer-states inner-states ∙ when_passed _ _ _ s.passes
+    ∙ ap (λ (f : ℕ). segmented f a.block.now (length a.work.now) (length a.out.now) a.outer.now a.inner.now) is
+
+pub returns-clause-workspace : goal.returns-clause-workspace
+unfolding segments_workspace encode_workspace
+returns-clause-workspace c =
+    let is = c.in_ok-format.ensures.known in
+    let s = segments_passed-at is c.in_ok-format.ensures.number in
+    let p = encode_passed _ _ _ _ s.encodes in
+    rw (← is) (
+      c.encode-of_outer.ensures.work_after ∙ work-written _ p.known c.args.block.now p.long c.args.work.now c.record-k1.ensures
+      ∙ when_passed _ _ _ s.encodes ∙ when_passed _ _ _ s.passes
+    )
+
+pub returns-clause-output : goal.returns-clause-output
+unfolding segments_output encode_output
+returns-clause-output c =
+    let n = c.in_ok-format.format.number in
+    let is = c.in_ok-format.ensures.known in
+    let s = segments_passed-at is c.in_ok-format.ensures.number in
+    let p = encode_passed _ _ _ _ s.encodes in
+    rw (← is) (
+      c.encode-of_inner.ensures.out_after
+      ∙ ap₂ (λ (l out : List ℕ). from_outer n l ++ drop (N1 (format_of n)) out)
+      (c.encode-of_outer.ensures.work_after ∙ work-written _ p.known c.args.block.now p.long c.args.work.now c.record-k1.ensures) c.put_pieces.ensures
+      ∙ both-written n p.known c.args.block.now p.long _ c.args.out.now p.out-fits
+      ∙ when_passed _ _ _ s.encodes ∙ when_passed _ _ _ s.passes
+    )
