@@ -10,7 +10,7 @@ pub mod steps;
 pub const SEGMENTS: usize = 16;
 
 // For each of the sixteen segments of a trellis, as numbers 2 * x0 + x1: the state in which its run from 00 ends, and its true starting state.
-// Both are 0 past the last segment.
+// Both are 0 past the last segment. They are arrays of numbers because the C interface hands them out as such.
 #[derive(Clone, Copy, Debug, PartialEq, Eq)]
 pub struct States {
     pub ended: [u8; SEGMENTS],
@@ -25,7 +25,8 @@ impl States {
     };
 }
 
-// Whether there are at most fifteen cuts.
+// Whether there are at most fifteen cuts. This and the next are two tests, and no type stands for cuts that pass both: a call asks the first of
+// both its lists before it asks the second of either.
 pub fn few(cuts: &[u16]) -> bool
     ensures { result ≡ is_few cuts.now }
 {

@@ -32,6 +32,7 @@ pub fn step(state: u64, bit: u64) -> Result<Step, Refusal>
 // A run from the state 2 * x0 + x1 over bits, not terminated: the state that it ends in.
 // Checks: 3, the state is 0 to 3 and each bit 0 or 1; 5, the output has at least two bytes for each bit.
 // Afterwards the front of out is each bit and its parity in turn, and the other bytes are as they were; on refusal all are.
+#[tactic(auto, unfolding(crate::specs::Run::ran, crate::specs::Run::run_output, crate::specs::Run::run_number))]
 pub fn run(state: u64, bits: &[u8], out: &mut [u8]) -> Result<u8, Refusal>
     ensures answer { run_answer result ≡ ran state bits.now (length out.old) }
     ensures output { out.new ≡ run_output state bits.now out.old }
@@ -41,6 +42,7 @@ pub fn run(state: u64, bits: &[u8], out: &mut [u8]) -> Result<u8, Refusal>
 }
 
 // The checks of run, and the state that it starts in.
+#[tactic(auto, unfolding(crate::specs::Run::run_number))]
 fn check_run(state: u64, bits: &[u8], room: usize) -> Result<State, Refusal>
     ensures { MatchResult result (λ x. (run_number state bits.now room ≡ passed) × (x ≡ state_of state)) (λ e. check_number e ≡ run_number state bits.now room) }
 {
