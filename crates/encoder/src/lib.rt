@@ -1,7 +1,7 @@
 // The SCCC encoder (4): from an information block to a codeword, and from a codeword to labels.
 #![tactic(auto)]
 
-ghost use Rattle.std.specs.Prelude.{◌≡◌, [], ◌∷◌, ℕ, eqb, length, IfOk};
+ghost use Rattle.std.specs.Prelude.{◌≡◌, [], ◌∷◌, eqb, length, IfOk};
 ghost use Rattle.bits.specs.Checks.{◌or_else◌, first_failed, number_of, bad_length, bad_element};
 ghost use Rattle.bits.specs.Legal.{all_bits};
 ghost use Rattle.encoder.specs.Calls.{encode_number, encode_workspace, encode_output, labels_number, labels_output};

@@ -2,7 +2,7 @@
 ghost use Rattle.std.specs.Prelude.{◌≡◌, ◌+◌, ◌^◌, ◌≤◌, ◌<◌};
 ghost use Rattle.puncture.specs.Puncture.{counted};
 
-// Whether rate matching keeps a bit, and its counter at the next.
+// Whether rate matching keeps a bit, and its counter at the next, which there is either way.
 #[derive(Clone, Copy)]
 pub struct Matching {
     pub kept: bool,
