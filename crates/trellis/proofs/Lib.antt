@@ -3,4 +3,3 @@ pub mod Joined
 pub mod Linear
 pub mod Outer
 pub mod Runs
-pub mod Turns

@@ -19,10 +19,6 @@ pub run-append : (x : State) (a b : List ℕ) → run x (a ++ b) ≡ run x a ++ 
 run-append x [] b = refl
 run-append x (u ∷ a) b = rw (run-append (next x u) a b)
 
-pub parities-append : (x : State) (a b : List ℕ) → parities x (a ++ b) ≡ parities x a ++ parities (ends x a) b
-parities-append x [] b = refl
-parities-append x (u ∷ a) b = rw (parities-append (next x u) a b)
-
 pub run_length : (x : State) (bits : List ℕ) → length (run x bits) ≡ 2 * length bits
 run_length x [] = refl
 run_length x (u ∷ us) = omega (arith, run_length (next x u) us)
@@ -58,7 +54,7 @@ pub terminated-bits : (x : State) (bits : List ℕ) → all_bits bits ≡ true �
 terminated-bits x bits h = legal-append 1 bits (termination (ends x bits)) h (termination-bits (ends x bits))
 
 -- a state is found again from its number
-pub state_back : (x : State) → x.1 ≤ 1 → state_of (state_number x) ≡ x
+state_back : (x : State) → x.1 ≤ 1 → state_of (state_number x) ≡ x
 state_back x h =
     let first : (2 * x.0 + x.1) / 2 ≡ x.0 = omega arith in
     let second : (2 * x.0 + x.1) % 2 ≡ x.1 = omega arith in
