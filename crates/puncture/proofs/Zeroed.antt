@@ -6,7 +6,10 @@ use Prim.Native.Nat.{ℕ, zero, suc, ◌+◌, ◌-◌, ◌≤◌, ◌<◌}
 use native.Mathlib.Omega.{arith}
 use borrow.Author.Tests.{eqb-false, not-true}
 use lib.Dec.{eqb}
-use lib.ListN.{length, get_or, take, set, replicate, length-set, length-replicate, get_or-replicate}
+use lib.ListN.{length, get_or, take, set, replicate, length-set, length-replicate, get_or-replicate, get_or-eq_default}
+use Rattle.std.specs.Prelude.{sum}
+use Rattle.std.proofs.lemmas.List.Folds.{sum_by-replicate}
+use Rattle.std.proofs.lemmas.List.Sums.{sum_by-set}
 use lib.Seq.{get_or-set_other, get_or-take, length-take-le}
 use Rattle.bits.proofs.Table.{every, every-at, left-true, right_true}
 use Rattle.puncture.specs.Puncture.{period, most_punctured, zeroed, pattern}
@@ -42,29 +45,22 @@ pub pattern-low : (S k : ℕ) → get_or (pattern S) k 0 ≤ 1
 unfolding pattern
 pattern-low S k = zeroed-low (replicate period 1) (take (period - S) positions) (ones_low period) k
 
--- the sum of a list, which of bits is the number of ones
-abbrev pub total : List ℕ → ℕ
-total [] = 0
-total (x ∷ xs) = x + total xs
-
-total-ones : (n : ℕ) → total (replicate n 1) ≡ n
-total-ones zero = refl
-total-ones (suc n) = omega (arith, total-ones n)
-
-total-zero-at : (l : List ℕ) (p : ℕ) → get_or l p 0 ≡ 1 → total (set l p 0) + 1 ≡ total l
-total-zero-at [] p e = absurd (omega arith)
-total-zero-at (x ∷ xs) zero e = omega (arith, e)
-total-zero-at (x ∷ xs) (suc p) e = omega (arith, total-zero-at xs p e)
+-- the sum of a list of bits is the number of its ones: a zero in place of a one takes one from it
+sum-zero-at : (l : List ℕ) (p : ℕ) → get_or l p 0 ≡ 1 → sum (set l p 0) + 1 ≡ sum l
+sum-zero-at l p e =
+    let past : length l ≤ p → get_or l p 0 ≡ 0 = get_or-eq_default l 0 in
+    let inside : p < length l = grind arith in
+    omega (arith, sum_by-set (λ (x : ℕ). x) l p 0 0 inside, e)
 
 -- each of several distinct positions that hold a one takes one from the sum
-zeroed-total : (out ps : List ℕ) → distinct ps ≡ true → ((k : ℕ) → k < length ps → get_or out (get_or ps k 0) 0 ≡ 1)
-    → total (zeroed out ps) + length ps ≡ total out
-zeroed-total out [] d ones = omega arith
-zeroed-total out (p ∷ ps) d ones =
+zeroed-sum : (out ps : List ℕ) → distinct ps ≡ true → ((k : ℕ) → k < length ps → get_or out (get_or ps k 0) 0 ≡ 1)
+    → sum (zeroed out ps) + length ps ≡ sum out
+zeroed-sum out [] d ones = omega arith
+zeroed-sum out (p ∷ ps) d ones =
     let away = every-at (λ i q. not (eqb p q)) ps 0 (left-true (absent p ps) (distinct ps) d) in
-    let rest = zeroed-total (set out p 0) ps (right_true (absent p ps) (distinct ps) d)
+    let rest = zeroed-sum (set out p 0) ps (right_true (absent p ps) (distinct ps) d)
     (λ k h. get_or-set_other out p (get_or ps k 0) 0 0 (λ e. eqb-false p (get_or ps k 0) (not-true _ (away k h)) (sym e)) ∙ ones (suc k) (omega arith)) in
-    omega (arith, rest, total-zero-at out p (ones 0 (omega arith)))
+    omega (arith, rest, sum-zero-at out p (ones 0 (omega arith)))
 
 absent-take : (x n i : ℕ) (l : List ℕ) → every (λ i y. not (eqb x y)) i l ≡ true → every (λ i y. not (eqb x y)) i (take n l) ≡ true
 absent-take x zero i l e = refl
@@ -80,12 +76,12 @@ distinct-take (suc n) [] e = refl
 distinct-take (suc n) (x ∷ l) e =
     rw (absent-take x n 0 l (left-true (absent x l) (distinct l) e)) (distinct-take n l (right_true (absent x l) (distinct l) e))
 
-pub pattern-ones : (S : ℕ) → period - most_punctured ≤ S → S ≤ period → total (pattern S) ≡ S
+pub pattern-ones : (S : ℕ) → period - most_punctured ≤ S → S ≤ period → sum (pattern S) ≡ S
 unfolding pattern
 pattern-ones S low high =
     let ps = take (period - S) positions in
     let many : length ps ≡ period - S = length-take-le (period - S) positions (omega (arith, positions-length)) in
-    let counted = zeroed-total (replicate period 1) ps (distinct-take (period - S) positions positions-distinct)
+    let counted = zeroed-sum (replicate period 1) ps (distinct-take (period - S) positions positions-distinct)
     (λ k h. let inside : k < period - S = omega (arith, many) in
     rw (get_or-take (period - S) positions k 0 inside) (get_or-replicate period (get_or positions k 0) 1 0 (position-low k (omega arith)))) in
-    omega (arith, counted, many, total-ones period)
+    omega (arith, counted, many, sum_by-replicate (λ (x : ℕ). x) period 1)
