@@ -45,11 +45,6 @@ rises-on long from (c ∷ cs) h up low =
     (rises-on long c cs (legal_head long c cs low) (right_true (leb from c) (rises_from c cs) up) (legal-tail long c cs low))
 
 -- where the j-th ends: at its cut, or with the input
-pub stop_cut : (long : ℕ) (cuts : List ℕ) (j : ℕ) → j < length cuts → get_or cuts j 0 ≡ get_or cuts j long
-stop_cut long [] j h = absurd (omega arith)
-stop_cut long (c ∷ cs) zero h = refl
-stop_cut long (c ∷ cs) (suc j) h = stop_cut long cs j (omega arith)
-
 stop_is : (long : ℕ) (cuts : List ℕ) (j : ℕ) → j ≤ length cuts → get_or cuts j long ≡ get_or (stops long cuts) j 0
 stop_is long [] zero h = refl
 stop_is long [] (suc j) h = absurd (omega arith)

@@ -4,9 +4,9 @@ use mathlib.Core.Bool.{true}
 use mathlib.Core.List.{List, [], ◌∷◌, ◌++◌, map}
 use Prim.Native.Nat.{ℕ, zero, suc, ◌+◌, ◌-◌, ◌/◌, ◌%◌, ◌≤◌, ◌<◌}
 use native.Mathlib.Omega.{arith}
-use lib.ListN.{length, get_or, take, drop, replicate, length-replicate, length-append, length-map, drop_of_length-le, get_or-append, get_or-map}
+use lib.ListN.{length, get_or, take, drop, replicate, length-map, drop_of_length-le, get_or-append, get_or-map}
 use Rattle.bits.specs.Legal.{all_bits}
-use Rattle.bits.proofs.Fill.{Left, left_as, left_start, left_store, left_end}
+use Rattle.bits.proofs.Fill.{Left, left_as, left_end}
 use Rattle.bits.proofs.Lists.{drop-next}
 use Rattle.trellis.specs.Trellis.{State, zero-state, state_number, ends}
 use Rattle.trellis.proofs.Runs.{ends-bits}
@@ -14,7 +14,7 @@ use Rattle.cuts.specs.Cuts.{stops, between, segments_from, end_state, end_states
 use Rattle.cuts.specs.Propagation.{following, worked_from, worked_out}
 use Rattle.cuts.specs.declared.States.{States}
 use Rattle.cuts.proofs.Propagations.{worked_out_lem}
-use Rattle.cuts.proofs.Segments.{At, stops-length, cuts_few}
+use Rattle.cuts.proofs.Segments.{At, stops-length}
 
 -- the end states that are left to store
 pub ended-turn : (bits ends : List ℕ) (j from : ℕ) {to e : ℕ} → j < length ends → to ≡ get_or ends j 0 → e ≡ end_state (between from to bits)
@@ -48,10 +48,6 @@ worked_length x from (c ∷ cs) (e ∷ es) = omega (arith, worked_length (follow
 pub worked_fits : (cuts es : List ℕ) → length cuts ≤ most_cuts → length (worked_out cuts es) ≤ most_segments
 worked_fits cuts es h = omega (arith, worked_length zero-state 0 cuts es)
 
--- the first of them, 00, stands in the zeros already
-pub worked_start : (ws : List ℕ) → Left (replicate most_segments 0) 0 (0 ∷ ws) (replicate most_segments 0) 1 ws
-worked_start ws = left_store (left_start (replicate most_segments 0) 0 (0 ∷ ws))
-
 -- end states that stand behind those of the segments are not looked at
 worked_front : (x : State) (from : ℕ) (cuts es more : List ℕ) → length cuts ≤ length es → worked_from x from cuts (es ++ more) ≡ worked_from x from cuts es
 worked_front x from [] es more h = refl
@@ -75,14 +71,8 @@ drop-zeros (suc k) (suc n) =
 pub padded-is : {ws vs out : List ℕ} {n : ℕ} → length ws ≤ most_segments → vs ≡ [] → Left (replicate most_segments 0) 0 ws out n vs → out ≡ padded ws
 padded-is {ws} h e l = left_end h (left_as e l) ∙ ap (λ (t : List ℕ). ws ++ t) (drop-zeros (length ws) most_segments)
 
-padded-length : (l : List ℕ) → length l ≤ most_segments → length (padded l) ≡ most_segments
-padded-length l h = simp (length-append, length-replicate) (omega arith)
-
 -- between the two passes
 module _ (bits cuts : List ℕ) (c : Cuts (length bits) cuts) {ended : List ℕ} (is : ended ≡ padded (end_states cuts bits)) where
-  pub ended_sixteen : length ended ≡ most_segments
-  ended_sixteen = ap length is ∙ padded-length (end_states cuts bits) (omega (arith, ended-length cuts bits, cuts_few c))
-
   pub started_is : all_bits bits ≡ true → {started : List ℕ} → started ≡ padded (worked_out cuts ended) → started ≡ padded (start_states cuts bits)
   started_is legal worked =
       let e = end_states cuts bits in

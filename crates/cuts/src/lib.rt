@@ -17,14 +17,6 @@ pub struct States {
     pub started: [u8; SEGMENTS],
 }
 
-impl States {
-    // The states of a refusal.
-    pub const NONE: States = States {
-        ended: [0; SEGMENTS],
-        started: [0; SEGMENTS],
-    };
-}
-
 // Whether there are at most fifteen cuts. This and the next are two tests, and no type stands for cuts that pass both: a call asks the first of
 // both its lists before it asks the second of either.
 pub fn few(cuts: &[u16]) -> bool
