@@ -1,7 +1,7 @@
 -- A run over the positions of a format, where it starts and where it ends.
 use mathlib.Core.Path.{◌≡◌, ◌∙◌}
 use mathlib.Core.List.{List, ◌++◌}
-use Prim.Native.Nat.{ℕ, ◌+◌, ◌≤◌, ◌<◌}
+use Prim.Native.Nat.{ℕ, ◌≤◌}
 use native.Mathlib.Omega.{arith}
 use lib.ListN.{length, drop}
 use Rattle.acm.specs.Formats.{format_of, N1}
@@ -10,12 +10,12 @@ use Rattle.coder.specs.Coder.{finished}
 use Rattle.interleaver.specs.Interleaver.{π}
 use Rattle.interleaver.specs.Walk.{Walked}
 use Rattle.inner.specs.Left.{starting}
-use Rattle.inner.specs.Lent.{Lent, Stands, completes}
+use Rattle.inner.specs.Lent.{Stands, completes}
 use Rattle.inner.specs.Registers.{from_outer}
 use Rattle.inner.specs.declared.parameters.Parameters.{Parameters}
 use Rattle.inner.specs.declared.steps.Progress.{Progress}
 use Rattle.inner.proofs.Formats.{fits_whole, front-written}
-use Rattle.inner.proofs.Turns.{completed_start, completed-end, end_rooms}
+use Rattle.inner.proofs.Turns.{completed_start, completed-end}
 
 module _ (p : Parameters) where
   abbrev f : ℕ

@@ -1,13 +1,13 @@
 // What the inner encoder works with in a format.
-ghost use Rattle.std.specs.Prelude.{◌≡◌, ◌≤◌, ◌<◌, length, eqb};
-ghost use Rattle.acm.specs.Formats.{format_of};
+ghost use Rattle.std.specs.Prelude.{◌≡◌, ◌+◌, ◌*◌, ◌≤◌, ◌<◌, length, eqb};
+ghost use Rattle.acm.specs.Formats.{M, format_of};
 ghost use Rattle.annex_c.specs.AnnexC.{size_of};
 ghost use Rattle.interleaver.specs.Interleaver.{π};
-ghost use Rattle.interleaver.specs.Walk.{Walked, Multiples};
+ghost use Rattle.interleaver.specs.Walk.{Multiples};
 ghost use Rattle.puncture.specs.Puncture.{period, survives, LaidOut};
 
 use acm::{AcmFormat, Format};
-use interleaver::steps::{BANKS, Permutation, Walk};
+use interleaver::steps::{BANKS, Permutation};
 use puncture::{LAID_OUT, PERIOD};
 
 // A format's record, its interleaver, and its puncturing pattern, laid out, in which a position is found by W × bank modulo 300.
@@ -40,13 +40,13 @@ impl Parameters {
         }
     }
 
-    // The mark of the position that is read where a walk stands: 1 if the upper register keeps its bit, 0 if it is punctured.
-    pub fn mark_at(&self, walk: Walk) -> u8
-        requires { Walked (length self.now.permutation.alpha.now) walk × (walk.position.0 < (format_of self.now.format.number).i) }
+    // The mark of the position that is read at a row of a column: 1 if the upper register keeps its bit, 0 if it is punctured.
+    pub fn mark_in(&self, column: usize, row: usize) -> u8
+        requires { (column < M) × (row < length self.now.permutation.alpha.now) }
         ensures low { result ≤ 1 }
-        ensures value { eqb result 1 ≡ survives (format_of self.now.format.number).survivors (π self.now.format.number walk.position.0) }
+        ensures value { eqb result 1 ≡ survives (format_of self.now.format.number).survivors (π self.now.format.number (length self.now.permutation.alpha.now * column + row)) }
     {
-        let residue = self.permutation.residue_at(&self.residues, walk);
+        let residue = self.permutation.residue_in(&self.residues, column, row);
         self.pattern[residue]
     }
 }

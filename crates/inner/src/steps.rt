@@ -81,16 +81,16 @@ impl Progress {
         ensures state_value { state_in result.coder ≡ ends (state_in self.coder) (reads (π parameters.now.format.number) work.now to self.walk.position.0) }
     {
         let f = parameters.figures;
-        let mut walk = self.walk;
+        let walk = self.walk;
+        let rows = to - walk.position.0;
         let mut coder = self.coder;
-        while walk.position.0 < to {
-            let position = parameters.permutation.position_at(walk);
-            let mark = parameters.mark_at(walk);
+        for row in walk.row..walk.row + rows {
+            let position = parameters.permutation.position_in(walk.column, row);
+            let mark = parameters.mark_in(walk.column, row);
             coder = coder.turn(f.i, f.delta, mark, work[position.number()], out);
-            walk = walk.down();
         }
         Progress {
-            walk: parameters.permutation.carry(walk),
+            walk: parameters.permutation.carry(walk.down(rows)),
             coder,
         }
     }

@@ -72,9 +72,9 @@ impl Run {
         let mut walk = self.walk;
         let mut state = self.state;
         while walk.position.0 < to {
-            let position = parameters.permutation.position_at(walk);
+            let position = parameters.permutation.position_in(walk.column, walk.row);
             state = state.next(work[position.number()]);
-            walk = parameters.permutation.carry(walk.down());
+            walk = parameters.permutation.carry(walk.down(1));
         }
         Run { walk, state }
     }

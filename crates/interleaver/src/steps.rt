@@ -5,7 +5,7 @@ ghost use Rattle.acm.specs.Formats.{M, format_of};
 ghost use Rattle.annex_c.specs.AnnexC.{Vectors, widest, size_of};
 ghost use Rattle.interleaver.specs.Interleaver.{permuted, π};
 ghost use Rattle.interleaver.specs.Expanded.{expands};
-ghost use Rattle.interleaver.specs.Walk.{Walked, InColumn, Multiples, down_one};
+ghost use Rattle.interleaver.specs.Walk.{Walked, InColumn, Multiples, down_by};
 
 use crate::{InterleavedPosition, M, UpperPosition};
 use acm::AcmFormat;
@@ -54,21 +54,13 @@ impl Permutation {
         InterleavedPosition(self.looked_up(&self.starts, column, row))
     }
 
-    // The interleaved position where a walk stands.
-    pub fn position_at(&self, walk: Walk) -> InterleavedPosition
-        requires { Walked (length self.now.alpha.now) walk × (walk.position.0 < M * length self.now.alpha.now) }
-        ensures { result.0 ≡ permuted self.now.alpha.now self.now.beta.now walk.position.0 }
+    // A number that leaves what the interleaved position of a row in a column leaves when divided by P; `residues` has W × bank modulo P. It is
+    // below P + W.
+    pub fn residue_in(&self, residues: &[u16; BANKS], column: usize, row: usize) -> usize
+        requires { (column < M) × (row < length self.now.alpha.now) }
+        ensures { (P : ℕ) → 0 < P → Multiples (length self.now.alpha.now) P residues.now → (result % P ≡ permuted self.now.alpha.now self.now.beta.now (length self.now.alpha.now * column + row) % P) × (result < P + length self.now.alpha.now) }
     {
-        self.position_in(walk.column, walk.row)
-    }
-
-    // A number that leaves what the interleaved position where a walk stands leaves when divided by P; `residues` has W × bank modulo P.
-    // It is below P + W.
-    pub fn residue_at(&self, residues: &[u16; BANKS], walk: Walk) -> usize
-        requires { Walked (length self.now.alpha.now) walk × (walk.position.0 < M * length self.now.alpha.now) }
-        ensures { (P : ℕ) → 0 < P → Multiples (length self.now.alpha.now) P residues.now → (result % P ≡ permuted self.now.alpha.now self.now.beta.now walk.position.0 % P) × (result < P + length self.now.alpha.now) }
-    {
-        self.looked_up(residues, walk.column, walk.row)
+        self.looked_up(residues, column, row)
     }
 
     // The entry of a row's bank in a column, and the row's α added.
@@ -107,13 +99,12 @@ impl Permutation {
     }
 }
 
-// A walk over the positions in order: where it stands, and the row and column of that position as running values. Only the interleaver
-// makes one.
+// A walk over the positions in order: where it stands, and the row and column of that position as running values.
 #[derive(Clone, Copy)]
 pub struct Walk {
     pub position: UpperPosition,
-    row: usize,
-    column: usize,
+    pub row: usize,
+    pub column: usize,
 }
 
 impl Walk {
@@ -128,14 +119,14 @@ impl Walk {
         }
     }
 
-    // One row on in the column: nothing is carried.
-    pub fn down(self) -> Walk
-        requires { (self.row ≤ self.position.0) × (self.position.0 < M * widest) }
-        ensures { result ≡ down_one self }
+    // So many rows on in the column: nothing is carried.
+    pub fn down(self, rows: usize) -> Walk
+        requires { (self.row ≤ self.position.0) × (self.position.0 + rows ≤ M * widest) }
+        ensures { result ≡ down_by rows self }
     {
         Walk {
-            position: UpperPosition(self.position.0 + 1),
-            row: self.row + 1,
+            position: UpperPosition(self.position.0 + rows),
+            row: self.row + rows,
             column: self.column,
         }
     }

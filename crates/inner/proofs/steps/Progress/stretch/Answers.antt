@@ -1,98 +1,135 @@
-use mathlib.Core.Path.{◌≡◌, ap, ◌∙◌}
-use Prim.Native.Nat.{ℕ, ◌*◌, ◌<◌}
+use mathlib.Core.Path.{◌≡◌, refl, sym, ap, ◌∙◌}
+use mathlib.Core.List.{List}
+use Prim.Native.Nat.{ℕ, ◌+◌, ◌*◌, ◌-◌, ◌≤◌, ◌<◌}
 use native.Mathlib.Omega.{arith}
 use lib.ListN.{length, get_or}
 use Rattle.acm.specs.Formats.{M, format_of}
 use Rattle.acm.proofs.Laws.{format-sound}
 use Rattle.interleaver.specs.Interleaver.{π}
-use Rattle.interleaver.specs.Walk.{Walked}
-use Rattle.interleaver.proofs.Walks.{walked-column, in_column_down, way_row, way_walked}
+use Rattle.interleaver.specs.Walk.{InColumn}
+use Rattle.interleaver.specs.declared.steps.Walk.{Walk}
+use Rattle.interleaver.proofs.Walks.{walked-column, in_column, in_column_down}
 use Rattle.coder.specs.Coder.{state_in}
-use Rattle.inner.proofs.Reading.{end-next}
+use Rattle.inner.specs.Lent.{Stands}
+use Rattle.inner.specs.declared.parameters.Parameters.{Parameters}
+use Rattle.inner.specs.declared.steps.Progress.{Progress}
+use Rattle.inner.proofs.Reading.{end-next, end_now}
 use Rattle.inner.proofs.Tables.{size, π-is, π-low}
-use Rattle.inner.proofs.Turns.{going_rooms, going_turn, counter_low}
-use Rattle.inner.proofs.steps.Progress.stretch.Goals.{After-position_at-position, In-loop-walk}
+use Rattle.inner.proofs.Turns.{going_start, going_fits, going_rooms, going_turn, counter_low}
+use Rattle.inner.proofs.steps.Progress.stretch.Goals.{After-position_in-position}
 use Rattle.inner.proofs.steps.Progress.stretch.Goals as goal
 
--- in a turn the walk stands at a row of its column, inside the interleaver
-module _ (t : In-loop-walk) where
-  row : t.loop-walk.walk.row < length t.args.parameters.now.permutation.alpha.now
-  row = way_row _ t.args.self.walk t.loop-walk.walk t.args.to t.loop-walk.invariant.1 t.loop-walk.invariant.2 t.loop-walk-test.true t.requires.stands.3
+-- the rows of the column that the stretch goes down, up to where it ends
+module _ (p : Parameters) where
+  abbrev W : ℕ
+  W = length p.permutation.alpha.now
 
-  walked : Walked (length t.args.parameters.now.permutation.alpha.now) t.loop-walk.walk
-  walked = way_walked _ t.args.self.walk t.loop-walk.walk t.args.to t.loop-walk.invariant.1 t.loop-walk.invariant.2 t.loop-walk-test.true t.requires.stands.3
+  module _ {work : List ℕ} {from : Progress} {to : ℕ} (h : Stands p work from × (from.walk.position.0 < to) × (to ≤ (format_of p.format.number).i) × (to ≤ W * (from.walk.column + 1))) where
+    inside : from.walk.position.0 < M * W
+    inside = omega (arith, h.1, h.2, size p)
 
-  below : t.loop-walk.walk.position.0 < (format_of t.args.parameters.now.format.number).i
-  below = omega (arith, t.loop-walk-test.true, t.requires.stands.2)
+    column : from.walk.column < M
+    column = walked-column W from.walk h.0.walked inside
 
-  inside : t.loop-walk.walk.position.0 < M * length t.args.parameters.now.permutation.alpha.now
-  inside = omega (arith, below, size t.args.parameters.now)
+    start : InColumn W from.walk
+    start = in_column W from.walk h.0.walked inside
+
+    rows : from.walk.row + (to - from.walk.position.0) ≤ W
+    rows = omega (arith, start.position-is, h.1, h.3)
+
+    below : (row : ℕ) → row < from.walk.row + (to - from.walk.position.0) → W * from.walk.column + row < to
+    below row less = omega (arith, start.position-is, h.1)
 
 -- the position that is read
-read_at : (c : After-position_at-position) → c.position_at-position.result.0 ≡ π c.args.parameters.now.format.number c.loop-walk.walk.position.0
-read_at c = c.position_at-position.ensures ∙ π-is c.args.parameters.now c.loop-walk.walk.position.0
+read_at : (c : After-position_in-position) → c.position_in-position.result.0 ≡ π c.args.parameters.now.format.number (length c.args.parameters.now.permutation.alpha.now * c.args.self.walk.column + c.loop-row.row)
+read_at c = c.position_in-position.ensures ∙ π-is c.args.parameters.now _
 
-pub position_at-position-requires : goal.position_at-position-requires
-position_at-position-requires c =
-    let t = (goal.at.position_at-position-requires c).In-loop-walk in
-    (walked t, inside t)
+pub loop-row-init : goal.loop-row-init
+loop-row-init c =
+    let p = c.args.parameters.now in
+    let (stands, _, _, _) = c.requires.stands in
+    rw (← (start p c.requires.stands).position-is) (stands.fits.counter_low, going_start _ _ _ _ _ _ stands.fits, refl)
 
-pub mark_at-mark-requires : goal.mark_at-mark-requires
-mark_at-mark-requires c =
-    let t = (goal.at.mark_at-mark-requires c).In-loop-walk in
-    (walked t, below t)
+pub position_in-position-requires : goal.position_in-position-requires
+position_in-position-requires c =
+    let p = c.args.parameters.now in
+    (column p c.requires.stands, omega (arith, c.loop-row-test.true, rows p c.requires.stands))
+
+pub mark_in-mark-requires : goal.mark_in-mark-requires
+mark_in-mark-requires c =
+    let p = c.args.parameters.now in
+    (column p c.requires.stands, omega (arith, c.loop-row-test.true, rows p c.requires.stands))
 
 pub bounds-work-number : goal.bounds-work-number
 bounds-work-number c =
     let p = c.args.parameters.now in
-    let low = π-low p c.loop-walk.walk.position.0 (below (goal.at.bounds-work-number c).In-loop-walk) in
-    omega (arith, c.number.ensures, read_at (goal.at.bounds-work-number c).After-position_at-position, low, c.requires.lent.outer-bits)
+    let more = below p c.requires.stands c.loop-row.row c.loop-row-test.true in
+    let inside : length p.permutation.alpha.now * c.args.self.walk.column + c.loop-row.row < (format_of p.format.number).i = omega (arith, more, c.requires.stands.2) in
+    let low = π-low p _ inside in
+    omega (arith, c.number.ensures, read_at (goal.at.bounds-work-number c).After-position_in-position, low, c.requires.lent.outer-bits)
 
 pub turn-coder-requires : goal.turn-coder-requires
 turn-coder-requires c =
     let p = c.args.parameters.now in
     let f = p.format.number in
     let sound = format-sound f p.format.listed in
-    let rooms = going_rooms (format_of f) (π f) c.args.work.now c.loop-walk.walk.position.0 c.loop-walk.coder c.loop-walk.invariant.4 c.requires.lent.room in
+    let rooms = going_rooms (format_of f) (π f) c.args.work.now _ c.loop-row.coder c.loop-row.invariant.1 c.requires.lent.room in
     rw p.figures_are (
-      c.mark_at-mark.ensures.low,
+      c.mark_in-mark.ensures.low,
       rooms.0,
       rooms.1,
       omega (arith, sound.deletes),
-      omega (arith, c.loop-walk.invariant.3, sound.banks, sound.widest),
+      omega (arith, c.loop-row.invariant.0, sound.banks, sound.widest),
     )
 
-pub loop-walk-preserved : goal.loop-walk-preserved
-loop-walk-preserved c =
+pub loop-row-preserved : goal.loop-row-preserved
+loop-row-preserved c =
     let p = c.args.parameters.now in
     let f = p.format.number in
     let r = format_of f in
     let work = c.args.work.now in
-    let l = c.loop-walk in
-    let i = l.walk.position.0 in
-    let t = (goal.at.loop-walk-preserved c).In-loop-walk in
-    let bit = ap (λ (k : ℕ). get_or work k 0) (c.number.ensures ∙ read_at (goal.at.loop-walk-preserved c).After-position_at-position) in
-    rw (c.down-walk.ensures, c.turn-coder.ensures.value, c.turn-coder.ensures.out_after, p.figures_are) (
-      omega (arith, c.loop-walk-test.true),
-      in_column_down _ l.walk l.invariant.1 (row t),
-      l.invariant.2,
-      counter_low r.i r.delta l.coder.counter (omega (arith, (format-sound f p.format.listed).deletes)) l.invariant.3,
-      going_turn r (π f) work i l.coder l.invariant.4 c.mark_at-mark.result _ (below t) bit c.mark_at-mark.ensures.value,
-      end-next (π f) work c.args.to i (state_in l.coder) c.loop-walk-test.true bit ∙ l.invariant.5,
+    let l = c.loop-row in
+    let (low, going, ends) = l.invariant in
+    let i = length p.permutation.alpha.now * c.args.self.walk.column + l.row in
+    let on : length p.permutation.alpha.now * c.args.self.walk.column + (l.row + 1) ≡ i + 1 = omega arith in
+    let more = below p c.requires.stands l.row c.loop-row-test.true in
+    let bit = ap (λ (k : ℕ). get_or work k 0) (c.number.ensures ∙ read_at (goal.at.loop-row-preserved c).After-position_in-position) in
+    rw (on, c.turn-coder.ensures.value, c.turn-coder.ensures.out_after, p.figures_are) (
+      counter_low r.i r.delta l.coder.counter (omega (arith, (format-sound f p.format.listed).deletes)) low,
+      going_turn r (π f) work i l.coder going c.mark_in-mark.result _ (omega (arith, more, c.requires.stands.2)) bit c.mark_in-mark.ensures.value,
+      end-next (π f) work c.args.to i (state_in l.coder) more bit ∙ ends,
     )
 
-pub down-walk-requires : goal.down-walk-requires
-down-walk-requires c =
-    let in_column = c.loop-walk.invariant.1 in (
-      omega (arith, in_column.position-is),
-      omega (arith, inside (goal.at.down-walk-requires c).In-loop-walk, c.args.parameters.now.permutation.ranges.narrow),
-    )
+pub down-requires : goal.down-requires
+down-requires c =
+    let p = c.args.parameters.now in
+    let h = c.requires.stands in
+    (omega (arith, (start p h).position-is), omega (arith, h.1, h.2, size p, p.permutation.ranges.narrow))
 
 pub carry-requires : goal.carry-requires
 carry-requires c =
-    let (stands, more, end, _) = c.requires.stands in
-    let from : c.args.self.walk.position.0 < M * length c.args.parameters.now.permutation.alpha.now = omega (arith, more, end, size c.args.parameters.now) in (
-      c.loop-walk.invariant.1,
-      omega (arith, from),
-      omega (arith, walked-column _ c.args.self.walk stands.walked from, c.loop-walk.invariant.2),
+    let p = c.args.parameters.now in
+    let h = c.requires.stands in
+    rw c.down.ensures (
+      in_column_down _ _ c.args.self.walk (start p h) (rows p h),
+      omega (arith, inside p h),
+      column p h,
     )
+
+pub returns : goal.returns
+returns c =
+    let p = c.args.parameters.now in
+    let f = p.format.number in
+    let work = c.args.work.now in
+    let h = c.requires.stands in
+    let l = c.loop-row in
+    let (low, going, ends) = l.invariant in
+    let i = length p.permutation.alpha.now * c.args.self.walk.column + l.row in
+    let last : i ≡ c.args.to = omega (arith, (start p h).position-is, h.1) in
+    let position = c.carry.ensures.0 ∙ ap (λ (w : Walk). w.position.0) c.down.ensures in
+    let here : c.carry.result.position.0 ≡ i = omega (arith, position, h.1) in
+    record {
+      stands_2 = (record { fits = rw here (going_fits (format_of f) (π f) work i l.coder going low); walked = c.carry.ensures.1 }, here ∙ last);
+      out_after = rw here going.rest;
+      state_value = sym (end_now (π f) work c.args.to i (state_in l.coder) (omega (arith, last))) ∙ ends;
+    }

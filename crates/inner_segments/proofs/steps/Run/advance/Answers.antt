@@ -1,4 +1,4 @@
-use mathlib.Core.Path.{◌≡◌, ap, ◌∙◌}
+use mathlib.Core.Path.{◌≡◌, sym, ap, ◌∙◌}
 use Prim.Native.Nat.{ℕ, ◌+◌, ◌*◌, ◌<◌}
 use native.Mathlib.Omega.{arith}
 use lib.ListN.{length, get_or}
@@ -9,7 +9,7 @@ use Rattle.interleaver.specs.declared.steps.Walk.{Walk}
 use Rattle.interleaver.proofs.Walks.{walked_row, walked-column, in_column, in_column_down}
 use Rattle.inner.proofs.Reading.{end-next}
 use Rattle.inner.proofs.Tables.{size, π-is, π-low}
-use Rattle.inner_segments.proofs.steps.Run.advance.Goals.{After-position_at-position, After-carry-walk, In-loop-walk}
+use Rattle.inner_segments.proofs.steps.Run.advance.Goals.{After-position_in-position, After-carry-walk, In-loop-walk}
 use Rattle.inner_segments.proofs.steps.Run.advance.Goals as goal
 
 -- in a turn, the position is inside the interleaver
@@ -30,21 +30,26 @@ module _ (t : In-loop-walk) where
   row = walked_row W t.loop-walk.walk t.loop-walk.invariant.1 inside
 
 -- the position that is read
-read_at : (c : After-position_at-position) → c.position_at-position.result.0 ≡ π c.args.parameters.now.format.number c.loop-walk.walk.position.0
-read_at c = c.position_at-position.ensures ∙ π-is c.args.parameters.now c.loop-walk.walk.position.0
+read_at : (c : After-position_in-position) → InColumn (length c.args.parameters.now.permutation.alpha.now) c.loop-walk.walk
+    → c.position_in-position.result.0 ≡ π c.args.parameters.now.format.number c.loop-walk.walk.position.0
+read_at c column =
+    let p = c.args.parameters.now in
+    c.position_in-position.ensures ∙ π-is p _ ∙ ap (π p.format.number) (sym column.position-is)
 
 -- one position on
 past : (c : After-carry-walk) → c.carry-walk.result.position.0 ≡ c.loop-walk.walk.position.0 + 1
 past c = c.carry-walk.ensures.0 ∙ ap (λ (w : Walk). w.position.0) c.down.ensures
 
-pub position_at-position-requires : goal.position_at-position-requires
-position_at-position-requires c = (c.loop-walk.invariant.1, inside (goal.at.position_at-position-requires c).In-loop-walk)
+pub position_in-position-requires : goal.position_in-position-requires
+position_in-position-requires c =
+    let t = (goal.at.position_in-position-requires c).In-loop-walk in
+    (walked-column _ c.loop-walk.walk c.loop-walk.invariant.1 (inside t), row t)
 
 pub bounds-work-number : goal.bounds-work-number
 bounds-work-number c =
     let t = (goal.at.bounds-work-number c).In-loop-walk in
     let low = π-low c.args.parameters.now c.loop-walk.walk.position.0 (below t) in
-    omega (arith, c.number.ensures, read_at (goal.at.bounds-work-number c).After-position_at-position, low, c.requires.3)
+    omega (arith, c.number.ensures, read_at (goal.at.bounds-work-number c).After-position_in-position (column t), low, c.requires.3)
 
 pub down-requires : goal.down-requires
 down-requires c =
@@ -55,7 +60,7 @@ pub carry-walk-requires : goal.carry-walk-requires
 carry-walk-requires c =
     let t = (goal.at.carry-walk-requires c).In-loop-walk in
     rw c.down.ensures (
-      in_column_down _ c.loop-walk.walk (column t) (row t),
+      in_column_down _ 1 c.loop-walk.walk (column t) (omega (arith, row t)),
       omega (arith, row t),
       walked-column _ c.loop-walk.walk c.loop-walk.invariant.1 (inside t),
     )
@@ -66,7 +71,7 @@ loop-walk-preserved c =
     let ρ = π x.parameters.now.format.number in
     let i = c.loop-walk.walk.position.0 in
     let on = past (goal.at.loop-walk-preserved c).After-carry-walk in
-    let bit = ap (λ (k : ℕ). get_or x.work.now k 0) (c.number.ensures ∙ read_at (goal.at.loop-walk-preserved c).After-position_at-position) in (
+    let bit = ap (λ (k : ℕ). get_or x.work.now k 0) (c.number.ensures ∙ read_at (goal.at.loop-walk-preserved c).After-position_in-position (column (goal.at.loop-walk-preserved c).In-loop-walk)) in (
       omega (arith, on, c.loop-walk-test.true),
       c.carry-walk.ensures.1,
       rw (c.next-state.ensures, on) (end-next ρ x.work.now x.to i c.loop-walk.state c.loop-walk-test.true bit) ∙ c.loop-walk.invariant.2,
