@@ -70,7 +70,7 @@ impl From<Row> for Format {
     }
 }
 
-pub const ROWS: [Row; 37] = [
+pub static ROWS: [Row; 37] = [
     Row {
         number: 1,
         m: 2,

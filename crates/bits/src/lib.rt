@@ -16,19 +16,21 @@ pub fn sum(a: u8, b: u8) -> u8
     (a ^ b) % 2
 }
 
-// Elements of a stretch: a loop over so few ends soon after an element that is not legal.
+// Elements of a stretch. A loop over a constant number of them is laid out without a jump.
 const STRETCH: usize = 1024;
 
 // Whether every element is at most `top`: 1 for bits, 2^m - 1 for labels.
 pub fn all_at_most(list: &[u8], top: u8) -> bool
     ensures { result ≡ all_at_most top list.now }
 {
-    for stretch in list.chunks(STRETCH) {
+    let stretches = list.chunks_exact(STRETCH);
+    let rest = stretches.remainder();
+    for stretch in stretches {
         if top < largest(stretch) {
             return false;
         }
     }
-    true
+    largest(rest) <= top
 }
 
 // The largest element, 0 where there is none.

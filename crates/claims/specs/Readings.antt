@@ -1,8 +1,7 @@
 -- The marked rows of document 01, "Readings to try".
 use Rattle.std.specs.Prelude.{◌≡◌, List, [], ◌∷◌, ◌↔◌, ◌⊎◌, ℕ, ◌<◌, get_or}
 use Rattle.bits.specs.Checks.{passed}
-use Rattle.trellis.specs.Trellis.{State, zero-state, stepped, run, ends, termination}
-use Rattle.trellis.specs.declared.Stepped.{Stepped}
+use Rattle.trellis.specs.Trellis.{State, zero-state, Stepped, stepped, run, ends, termination}
 use Rattle.puncture.specs.Puncture.{period, pattern}
 
 -- a step that passes its check: its two bits, and the number of the state that follows

@@ -3,19 +3,18 @@
 use Rattle.std.specs.Prelude.{List, ℕ, ◌*◌, eqb, if◌then◌else◌}
 use Rattle.bits.specs.Checks.{passed}
 use Rattle.acm.specs.Formats as acm
-use Rattle.trellis.specs.declared.Ran.{Ran}
-use Rattle.trellis.specs.declared.Stepped as trellis
+use Rattle.trellis.specs.Run.{Ran}
+use Rattle.trellis.specs.Trellis as trellis
 use Rattle.interleaver.specs.Interleaver as interleaver
 use Rattle.interleaver.specs.Provenance.{Provenance}
 use Rattle.framing.specs.Calls.{section_number}
 use Rattle.compare.specs.Comparison as compare
 use Rattle.cuts.specs.declared.States.{States}
-use Rattle.segments.specs.declared.Segmented.{Segmented}
-use Rattle.sharing.specs.declared.Shared.{Shared}
+use Rattle.segments.specs.Calls.{Segmented}
+use Rattle.sharing.specs.Calls.{Shared}
 use Rattle.slicer.specs.Calls as slicer
 use Rattle.slicer.specs.Change.{LookAnswer as Look}
 use Rattle.slicer.specs.declared.Slicer as below
-use Rattle.slicer.specs.declared.Answer.{Answer}
 use Rattle.sccc.specs.declared.FormatInfo.{FormatInfo}
 use Rattle.sccc.specs.declared.Stepped.{Stepped}
 use Rattle.sccc.specs.declared.Interleaved.{Interleaved}
@@ -84,7 +83,7 @@ slicer_struct s = record { format = s.format; frame_length = s.octets; waiting =
 abbrev pub slicer_of : Slicer → below.Slicer
 slicer_of s = record { format = s.format; octets = s.frame_length; waiting = s.waiting }
 
-abbrev pub answer_struct : Answer → SlicerAnswer
+abbrev pub answer_struct : slicer.Answer → SlicerAnswer
 answer_struct a = record { number = a.number; slicer = slicer_struct a.slicer }
 
 abbrev pub block_struct : slicer.BlockAnswer → BlockAnswer

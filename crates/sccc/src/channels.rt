@@ -3,9 +3,11 @@ ghost use Rattle.std.specs.Prelude.{◌≡◌, length};
 ghost use Rattle.sharing.specs.Calls.{shared, shared_memory, shared_workspace, shared_output};
 ghost use Rattle.sccc.specs.Structs.{shared_struct};
 
+use crate::{PASSED, refused};
+
 // The size I that the memory holds, 0 for none; on refusal what it held.
 #[repr(C)]
-#[derive(Drop)]
+#[derive(Debug, Drop)]
 pub struct SharedAnswer {
     pub number: u64,
     pub held: u64,
@@ -31,8 +33,14 @@ pub extern "C" fn sccc_encode_shared(
     ensures output { out.new ≡ shared_output format block.now work.old out.old memory.old held }
     ensures interleaver { memory.new ≡ shared_memory format block.now (length work.old) (length out.old) memory.old held }
 {
-    let r = sharing::encode_shared(format, block, work, out, memory, held);
-    let number = r.number as u64;
-    let held = r.held;
-    SharedAnswer { number, held }
+    match sharing::encode_shared(format, block, work, out, memory, held) {
+        Ok(held) => SharedAnswer {
+            number: PASSED,
+            held,
+        },
+        Err(refusal) => SharedAnswer {
+            number: refused(refusal),
+            held,
+        },
+    }
 }

@@ -5,18 +5,20 @@
 #![tactic(auto)]
 
 ghost use Rattle.std.specs.Prelude.{◌≡◌, length};
+ghost use Rattle.bits.specs.Checks.{check_number};
 ghost use Rattle.acm.specs.Formats.{looked_up};
-ghost use Rattle.trellis.specs.Trellis.{stepped};
-ghost use Rattle.interleaver.specs.Interleaver.{interleaved_at, refused as refused_position};
+ghost use Rattle.trellis.specs.Trellis.{step_answer, stepped};
+ghost use Rattle.interleaver.specs.Interleaver.{answer_of as position_answer_of, interleaved_at};
 ghost use Rattle.interleaver.specs.Provenance.{provenance_at};
 ghost use Rattle.encoder.specs.Calls.{encode_number, encode_workspace, encode_output, labels_number, labels_output};
 ghost use Rattle.framing.specs.Calls.{frame_number, frame_output};
-ghost use Rattle.compare.specs.Comparison.{compared, refused as refused_comparison};
-ghost use Rattle.sccc.specs.Structs.{info_struct, step_struct, position_struct, range_struct, refused as refused_range, comparison_struct};
+ghost use Rattle.compare.specs.Comparison.{answer_of as comparison_answer_of, compared};
+ghost use Rattle.sccc.specs.Structs.{info_struct, step_struct, position_struct, range_struct, comparison_struct};
 
-use acm::Found;
-use bits::checks;
-use interleaver::{Source, UpperPosition};
+use bits::Refusal;
+use bits::checks::number;
+use interleaver::{InterleavedPosition, Source, UpperPosition};
+use trellis::Step;
 
 pub mod channels;
 pub mod machine;
@@ -24,12 +26,12 @@ pub mod run;
 pub mod stream;
 
 // The number in the answer of a call that fails no check.
-const PASSED: u64 = checks::PASSED as u64;
+const PASSED: u64 = 0;
 
 // An ACM format's m, K, I, W and N, 1 where its interleaver has rows that stand in for published ones, else 0, and the soft share: K1, K2 and the
 // soft bits in a label.
 #[repr(C)]
-#[derive(Drop)]
+#[derive(Debug, Default, Drop)]
 pub struct FormatInfo {
     pub number: u64,
     pub m: u64,
@@ -49,32 +51,23 @@ pub struct FormatInfo {
 pub extern "C" fn sccc_format(format: u64) -> FormatInfo
     ensures { result ≡ info_struct (looked_up format) (provenance_at format) }
 {
-    let Found::Record(f) = acm::lookup(format) else {
-        let number = checks::FORMAT as u64;
-        return FormatInfo {
-            number,
-            m: 0,
-            k: 0,
-            i: 0,
-            w: 0,
-            n: 0,
-            provisional: 0,
-            k1: 0,
-            k2: 0,
-            soft: 0,
-        };
-    };
-    FormatInfo {
-        number: PASSED,
-        m: f.m as u64,
-        k: f.k as u64,
-        i: f.i as u64,
-        w: f.w as u64,
-        n: f.n as u64,
-        provisional: provisional(format),
-        k1: f.k1 as u64,
-        k2: f.k2 as u64,
-        soft: f.soft as u64,
+    match acm::lookup(format) {
+        Ok(f) => FormatInfo {
+            number: PASSED,
+            m: f.m as u64,
+            k: f.k as u64,
+            i: f.i as u64,
+            w: f.w as u64,
+            n: f.n as u64,
+            provisional: provisional(format),
+            k1: f.k1 as u64,
+            k2: f.k2 as u64,
+            soft: f.soft as u64,
+        },
+        Err(refusal) => FormatInfo {
+            number: refused(refusal),
+            ..FormatInfo::default()
+        },
     }
 }
 
@@ -82,22 +75,47 @@ pub extern "C" fn sccc_format(format: u64) -> FormatInfo
 fn provisional(format: u64) -> u64
     ensures { result ≡ (provenance_at format).provisional }
 {
-    let source = interleaver::provenance(format);
-    match source {
-        Source::StandIn => 1,
-        Source::Published => 0,
-        Source::NoFormat => 0,
+    match interleaver::provenance(format) {
+        Ok(Source::StandIn) => 1,
+        Ok(Source::Published) => 0,
+        Err(_) => 0,
     }
+}
+
+// The number of a check that failed, as wide as in the answers.
+fn refused(refusal: Refusal) -> u64
+    ensures { result ≡ check_number refusal }
+{
+    u64::from(u8::from(refusal))
 }
 
 // The two output bits of a trellis step, and the state 2 * x0 + x1 that follows.
 #[repr(C)]
-#[derive(Drop)]
+#[derive(Debug, Default, Drop)]
 pub struct Stepped {
     pub number: u64,
     pub systematic: u64,
     pub parity: u64,
     pub state: u64,
+}
+
+impl From<Result<Step, Refusal>> for Stepped {
+    ghost from_gives = { λ answer stepped. stepped ≡ step_struct (step_answer answer) };
+
+    fn from(answer: Result<Step, Refusal>) -> Stepped {
+        match answer {
+            Ok(step) => Stepped {
+                number: PASSED,
+                systematic: u64::from(step.systematic),
+                parity: u64::from(step.parity),
+                state: u64::from(step.state),
+            },
+            Err(refusal) => Stepped {
+                number: refused(refusal),
+                ..Stepped::default()
+            },
+        }
+    }
 }
 
 // One trellis step from the state 2 * x0 + x1 on a bit.
@@ -106,30 +124,30 @@ pub struct Stepped {
 pub extern "C" fn sccc_step(state: u64, bit: u64) -> Stepped
     ensures { result ≡ step_struct (stepped state bit) }
 {
-    let s = trellis::step(state, bit);
-    Stepped {
-        number: s.number as u64,
-        systematic: s.systematic as u64,
-        parity: s.parity as u64,
-        state: s.state as u64,
-    }
+    Stepped::from(trellis::step(state, bit))
 }
 
 // An interleaved position.
 #[repr(C)]
-#[derive(Drop)]
+#[derive(Debug, Default, Drop)]
 pub struct Interleaved {
     pub number: u64,
     pub position: u64,
 }
 
-impl Interleaved {
-    fn refused(number: u8) -> Self
-        ensures { result ≡ position_struct (refused_position number) }
-    {
-        Interleaved {
-            number: number as u64,
-            position: 0,
+impl From<Result<InterleavedPosition, Refusal>> for Interleaved {
+    ghost from_gives = { λ answer interleaved. interleaved ≡ position_struct (position_answer_of answer) };
+
+    fn from(answer: Result<InterleavedPosition, Refusal>) -> Interleaved {
+        match answer {
+            Ok(position) => Interleaved {
+                number: PASSED,
+                position: position.number() as u64,
+            },
+            Err(refusal) => Interleaved {
+                number: refused(refusal),
+                ..Interleaved::default()
+            },
         }
     }
 }
@@ -140,15 +158,7 @@ impl Interleaved {
 pub extern "C" fn sccc_interleave(format: u64, position: u64) -> Interleaved
     ensures { result ≡ position_struct (interleaved_at format position) }
 {
-    let answer = interleaver::interleave(format, UpperPosition(position as usize));
-    match answer {
-        interleaver::Interleaved::At(p) => Interleaved {
-            number: PASSED,
-            position: p.number() as u64,
-        },
-        interleaver::Interleaved::NoFormat => Interleaved::refused(checks::FORMAT),
-        interleaver::Interleaved::Outside => Interleaved::refused(checks::PLACE),
-    }
+    Interleaved::from(interleaver::interleave(format, UpperPosition(position as usize)))
 }
 
 // The codeword of an information block.
@@ -161,7 +171,7 @@ pub extern "C" fn sccc_encode(format: u64, block: &[u8], work: &mut [u8], out: &
     ensures workspace { work.new ≡ encode_workspace format block.now work.old out.old }
     ensures output { out.new ≡ encode_output format block.now work.old out.old }
 {
-    encoder::encode(format, block, work, out)
+    number(encoder::encode(format, block, work, out))
 }
 
 // The labels of a codeword: 8,100 numbers of m bits.
@@ -172,7 +182,7 @@ pub extern "C" fn sccc_labels(format: u64, codeword: &[u8], out: &mut [u8]) -> u
     ensures number { result ≡ labels_number format codeword.now (length out.old) }
     ensures output { out.new ≡ labels_output format codeword.now out.old }
 {
-    encoder::labels(format, codeword, out)
+    number(encoder::labels(format, codeword, out))
 }
 
 // The frame of sixteen codewords' labels: marker and descriptor bits as 256 for 0 and 257 for 1, then the labels, and with pilots (choice 1)
@@ -185,52 +195,40 @@ pub extern "C" fn sccc_frame(format: u64, pilots: u64, labels: &[u8], out: &mut 
     ensures number { result ≡ frame_number format pilots labels.now (length out.old) }
     ensures output { out.new ≡ frame_output format pilots labels.now out.old }
 {
-    framing::frame(format, pilots, labels, out)
+    number(framing::frame(format, pilots, labels, out))
 }
 
 // Where a codeword section stands in the caller's labels.
 #[repr(C)]
-#[derive(Drop)]
+#[derive(Debug, Default, Drop)]
 pub struct SectionRange {
     pub number: u64,
     pub start: u64,
     pub length: u64,
 }
 
-impl SectionRange {
-    fn refused(number: u8) -> Self
-        ensures { result ≡ refused_range number }
-    {
-        SectionRange {
-            number: number as u64,
-            start: 0,
-            length: 0,
-        }
-    }
-}
-
-// The codeword section at a place from 0 to 15 (document 01: a part), 8,100 of the caller's own labels, by its start and its length.
+// The codeword section at a place from 0 to 15, 8,100 of the caller's own labels, by its start and its length.
 // Checks: 2, there are 129,600 labels; 8, the place is 0 to 15.
 #[unsafe(no_mangle)]
 pub extern "C" fn sccc_section(labels: &[u8], place: u64) -> SectionRange
     ensures { result ≡ range_struct labels.now place }
 {
-    let number = framing::section_number(labels, place);
-    if number != checks::PASSED {
-        return SectionRange::refused(number);
-    }
-    let length = acm::SYMBOLS as u64;
-    let start = place * length;
-    SectionRange {
-        number: PASSED,
-        start,
-        length,
+    match framing::section(labels, place) {
+        Ok(_) => SectionRange {
+            number: PASSED,
+            start: place * acm::SYMBOLS as u64,
+            length: acm::SYMBOLS as u64,
+        },
+        Err(refusal) => SectionRange {
+            number: refused(refusal),
+            ..SectionRange::default()
+        },
     }
 }
 
 // Whether two label lists are the same, 1 or 0; if they are not, in how many bits they differ, and the first place at which they do.
 #[repr(C)]
-#[derive(Drop)]
+#[derive(Debug, Default, Drop)]
 pub struct Comparison {
     pub number: u64,
     pub same: u64,
@@ -238,39 +236,35 @@ pub struct Comparison {
     pub first: u64,
 }
 
-impl Comparison {
-    fn refused(number: u8) -> Self
-        ensures { result ≡ comparison_struct (refused_comparison number) }
-    {
-        Comparison {
-            number: number as u64,
-            same: 0,
-            count: 0,
-            first: 0,
+impl From<Result<compare::Comparison, Refusal>> for Comparison {
+    ghost from_gives = { λ answer comparison. comparison ≡ comparison_struct (comparison_answer_of answer) };
+
+    fn from(answer: Result<compare::Comparison, Refusal>) -> Comparison {
+        match answer {
+            Ok(compare::Comparison::Same) => Comparison {
+                number: PASSED,
+                same: 1,
+                ..Comparison::default()
+            },
+            Ok(compare::Comparison::Differ { count, first }) => Comparison {
+                number: PASSED,
+                same: 0,
+                count: count as u64,
+                first: first as u64,
+            },
+            Err(refusal) => Comparison {
+                number: refused(refusal),
+                ..Comparison::default()
+            },
         }
     }
 }
 
-// Two lists of 8,100 labels of a format held against each other (document 01: the tally; document 02, L2: it counts bits).
+// Two lists of 8,100 labels of a format held against each other: it counts bits.
 // Checks: 1; 2, each list has 8,100 labels; 3, each label of either is below 2^m.
 #[unsafe(no_mangle)]
 pub extern "C" fn sccc_compare(format: u64, a: &[u8], b: &[u8]) -> Comparison
     ensures { result ≡ comparison_struct (compared format a.now b.now) }
 {
-    let answer = compare::compare(format, a, b);
-    match answer {
-        compare::Comparison::Same => Comparison {
-            number: PASSED,
-            same: 1,
-            count: 0,
-            first: 0,
-        },
-        compare::Comparison::Differ { count, first } => Comparison {
-            number: PASSED,
-            same: 0,
-            count: count as u64,
-            first: first as u64,
-        },
-        compare::Comparison::Refused(number) => Comparison::refused(number),
-    }
+    Comparison::from(compare::compare(format, a, b))
 }

@@ -1,25 +1,56 @@
 // Encoding by segments: the machine of section 6.
 ghost use Rattle.std.specs.Prelude.{◌≡◌, length};
-ghost use Rattle.segments.specs.Calls.{segmented, segments_workspace, segments_output};
+ghost use Rattle.segments.specs.Calls.{answer_of, segmented, segments_workspace, segments_output};
 ghost use Rattle.sccc.specs.Structs.{states_struct, segments_struct};
 
+use crate::{PASSED, refused};
+use bits::Refusal;
 use cuts::{SEGMENTS, States};
+use segments::Segmented;
 
 // For each of the sixteen segments of a trellis, as numbers 2 * x0 + x1: the state in which its run from 00 ends, and its true starting state.
 #[repr(C)]
-#[derive(Drop)]
+#[derive(Debug, Drop)]
 pub struct SegmentStates {
     pub ended: [u8; SEGMENTS],
     pub started: [u8; SEGMENTS],
 }
 
+impl From<States> for SegmentStates {
+    ghost from_gives = { λ below states. states ≡ states_struct below };
+
+    fn from(states: States) -> SegmentStates {
+        let States { ended, started } = states;
+        SegmentStates { ended, started }
+    }
+}
+
 // The states of the segments of each trellis.
 #[repr(C)]
-#[derive(Drop)]
+#[derive(Debug, Drop)]
 pub struct SegmentsAnswer {
     pub number: u64,
     pub outer: SegmentStates,
     pub inner: SegmentStates,
+}
+
+impl From<Result<Segmented, Refusal>> for SegmentsAnswer {
+    ghost from_gives = { λ answer segments. segments ≡ segments_struct (answer_of answer) };
+
+    fn from(answer: Result<Segmented, Refusal>) -> SegmentsAnswer {
+        match answer {
+            Ok(states) => SegmentsAnswer {
+                number: PASSED,
+                outer: SegmentStates::from(states.outer),
+                inner: SegmentStates::from(states.inner),
+            },
+            Err(refusal) => SegmentsAnswer {
+                number: refused(refusal),
+                outer: SegmentStates::from(States::NONE),
+                inner: SegmentStates::from(States::NONE),
+            },
+        }
+    }
 }
 
 // The codeword of an information block, by segments: the input of the outer trellis is cut at `outer`, that of the inner one at `inner`.
@@ -39,22 +70,5 @@ pub extern "C" fn sccc_encode_segments(
     ensures workspace { work.new ≡ segments_workspace format block.now work.old out.old outer.now inner.now }
     ensures output { out.new ≡ segments_output format block.now work.old out.old outer.now inner.now }
 {
-    let r = segments::encode_segments(format, block, work, out, outer, inner);
-    let number = r.number as u64;
-    let of_outer = r.outer;
-    let of_inner = r.inner;
-    SegmentsAnswer {
-        number,
-        outer: states(of_outer),
-        inner: states(of_inner),
-    }
-}
-
-// The states of one trellis, as C has them.
-fn states(s: States) -> SegmentStates
-    ensures { result ≡ states_struct s }
-{
-    let ended = s.ended;
-    let started = s.started;
-    SegmentStates { ended, started }
+    SegmentsAnswer::from(segments::encode_segments(format, block, work, out, outer, inner))
 }

@@ -1,14 +1,34 @@
 // A trellis run from any state.
 ghost use Rattle.std.specs.Prelude.{◌≡◌, length};
-ghost use Rattle.trellis.specs.Run.{ran, run_output};
+ghost use Rattle.trellis.specs.Run.{run_answer, ran, run_output};
 ghost use Rattle.sccc.specs.Structs.{run_struct};
+
+use crate::{PASSED, refused};
+use bits::Refusal;
 
 // The state 2 * x0 + x1 that a run ends in.
 #[repr(C)]
-#[derive(Drop)]
+#[derive(Debug, Default, Drop)]
 pub struct RunAnswer {
     pub number: u64,
     pub state: u64,
+}
+
+impl From<Result<u8, Refusal>> for RunAnswer {
+    ghost from_gives = { λ answer run. run ≡ run_struct (run_answer answer) };
+
+    fn from(answer: Result<u8, Refusal>) -> RunAnswer {
+        match answer {
+            Ok(state) => RunAnswer {
+                number: PASSED,
+                state: u64::from(state),
+            },
+            Err(refusal) => RunAnswer {
+                number: refused(refusal),
+                ..RunAnswer::default()
+            },
+        }
+    }
 }
 
 // A trellis run from the state 2 * x0 + x1 over bits, not terminated.
@@ -19,8 +39,5 @@ pub extern "C" fn sccc_run(state: u64, bits: &[u8], out: &mut [u8]) -> RunAnswer
     ensures answer { result ≡ run_struct (ran state bits.now (length out.old)) }
     ensures output { out.new ≡ run_output state bits.now out.old }
 {
-    let r = trellis::run(state, bits, out);
-    let number = r.number as u64;
-    let state = r.state as u64;
-    RunAnswer { number, state }
+    RunAnswer::from(trellis::run(state, bits, out))
 }

@@ -1,37 +1,40 @@
 // Transfer frames in, blocks out, of one format after another: the slicer's calls.
 ghost use Rattle.std.specs.Prelude.{◌≡◌, length};
-ghost use Rattle.slicer.specs.Calls.{fresh, pushed, push_memory, sliced, block_memory, block_output};
-ghost use Rattle.slicer.specs.Change.{changed, looked};
+ghost use Rattle.slicer.specs.Calls.{answer_of, fresh, pushed, push_memory, sliced, block_memory, block_output};
+ghost use Rattle.slicer.specs.Change.{look_answer_of, changed, looked};
 ghost use Rattle.sccc.specs.Structs.{slicer_of, slicer_struct, answer_struct, block_struct, look_struct};
 
-use crate::PASSED;
+use crate::{PASSED, refused};
+use bits::Refusal;
 use slicer::{Ahead, Sliced};
 
 // A channel's slicer: its format, the octets of each of its frames (0 before the first), and how many bits wait.
 #[repr(C)]
-#[derive(Drop)]
+#[derive(Debug, Drop)]
 pub struct Slicer {
     pub format: u64,
     pub frame_length: u64,
     pub waiting: u64,
 }
 
-impl Slicer {
-    // The struct of a slicer of the layer below.
-    fn of(s: slicer::Slicer) -> Self
-        ensures { result ≡ slicer_struct s }
-    {
+// The struct of a slicer of the layer below.
+impl From<slicer::Slicer> for Slicer {
+    ghost from_gives = { λ below s. s ≡ slicer_struct below };
+
+    fn from(s: slicer::Slicer) -> Slicer {
         Slicer {
             format: s.format,
             frame_length: s.octets as u64,
             waiting: s.waiting as u64,
         }
     }
+}
 
-    // The slicer that a struct tells of.
-    fn told(s: Slicer) -> slicer::Slicer
-        ensures { result ≡ slicer_of s }
-    {
+// The slicer that a struct tells of.
+impl From<Slicer> for slicer::Slicer {
+    ghost from_gives = { λ s below. below ≡ slicer_of s };
+
+    fn from(s: Slicer) -> slicer::Slicer {
         slicer::Slicer {
             format: s.format,
             octets: s.frame_length as usize,
@@ -42,15 +45,33 @@ impl Slicer {
 
 // A slicer, and the number of the check that failed; then the slicer is as it came.
 #[repr(C)]
-#[derive(Drop)]
+#[derive(Debug, Drop)]
 pub struct SlicerAnswer {
     pub number: u64,
     pub slicer: Slicer,
 }
 
+impl SlicerAnswer {
+    // The answer of a call that was lent a slicer.
+    fn of(before: slicer::Slicer, answer: Result<slicer::Slicer, Refusal>) -> Self
+        ensures { result ≡ answer_struct (answer_of before answer) }
+    {
+        match answer {
+            Ok(after) => SlicerAnswer {
+                number: PASSED,
+                slicer: Slicer::from(after),
+            },
+            Err(refusal) => SlicerAnswer {
+                number: refused(refusal),
+                slicer: Slicer::from(before),
+            },
+        }
+    }
+}
+
 // The same of a call for a block; wait is 1 where fewer than K bits wait, else 0.
 #[repr(C)]
-#[derive(Drop)]
+#[derive(Debug, Drop)]
 pub struct BlockAnswer {
     pub number: u64,
     pub wait: u64,
@@ -59,11 +80,29 @@ pub struct BlockAnswer {
 
 // Blocks that the waiting bits would yield, and bits that would stay.
 #[repr(C)]
-#[derive(Drop)]
+#[derive(Debug, Default, Drop)]
 pub struct LookAnswer {
     pub number: u64,
     pub blocks: u64,
     pub bits: u64,
+}
+
+impl From<Result<Ahead, Refusal>> for LookAnswer {
+    ghost from_gives = { λ answer look. look ≡ look_struct (look_answer_of answer) };
+
+    fn from(answer: Result<Ahead, Refusal>) -> LookAnswer {
+        match answer {
+            Ok(ahead) => LookAnswer {
+                number: PASSED,
+                blocks: ahead.blocks as u64,
+                bits: ahead.bits as u64,
+            },
+            Err(refusal) => LookAnswer {
+                number: refused(refusal),
+                ..LookAnswer::default()
+            },
+        }
+    }
 }
 
 // A slicer that has taken no frame. It takes any format; the calls refuse one that there is not.
@@ -71,7 +110,7 @@ pub struct LookAnswer {
 pub extern "C" fn sccc_slicer_new(format: u64) -> Slicer
     ensures { result ≡ slicer_struct (fresh format) }
 {
-    Slicer::of(slicer::new(format))
+    Slicer::from(slicer::Slicer::new(format))
 }
 
 // A transfer frame taken in: its marked and randomized bits stand behind those that wait.
@@ -83,11 +122,8 @@ pub extern "C" fn sccc_slicer_push(slicer: Slicer, frame: &[u8], waiting: &mut [
     ensures answer { result ≡ answer_struct (pushed (slicer_of slicer) frame.now waiting.old) }
     ensures memory { waiting.new ≡ push_memory (slicer_of slicer) frame.now waiting.old }
 {
-    let answer = slicer::push(Slicer::told(slicer), frame, waiting);
-    SlicerAnswer {
-        number: answer.number as u64,
-        slicer: Slicer::of(answer.slicer),
-    }
+    let before = slicer::Slicer::from(slicer);
+    SlicerAnswer::of(before, before.push(frame, waiting))
 }
 
 // A block taken out: the first K waiting bits to the front of out, and the others to the front of the memory.
@@ -104,22 +140,22 @@ pub extern "C" fn sccc_slicer_block(
     ensures memory { waiting.new ≡ block_memory (slicer_of slicer) waiting.old (length out.old) }
     ensures output { out.new ≡ block_output (slicer_of slicer) waiting.old out.old }
 {
-    let answer = slicer::block(Slicer::told(slicer), waiting, out);
-    match answer {
-        Sliced::Block(s) => BlockAnswer {
+    let before = slicer::Slicer::from(slicer);
+    match before.block(waiting, out) {
+        Ok(Sliced::Block(after)) => BlockAnswer {
             number: PASSED,
             wait: 0,
-            slicer: Slicer::of(s),
+            slicer: Slicer::from(after),
         },
-        Sliced::Wait(s) => BlockAnswer {
+        Ok(Sliced::Wait) => BlockAnswer {
             number: PASSED,
             wait: 1,
-            slicer: Slicer::of(s),
+            slicer: Slicer::from(before),
         },
-        Sliced::Refused(refusal) => BlockAnswer {
-            number: refusal.number as u64,
+        Err(refusal) => BlockAnswer {
+            number: refused(refusal),
             wait: 0,
-            slicer: Slicer::of(refusal.slicer),
+            slicer: Slicer::from(before),
         },
     }
 }
@@ -130,11 +166,8 @@ pub extern "C" fn sccc_slicer_block(
 pub extern "C" fn sccc_slicer_change(slicer: Slicer, format: u64) -> SlicerAnswer
     ensures { result ≡ answer_struct (changed (slicer_of slicer) format) }
 {
-    let answer = slicer::change(Slicer::told(slicer), format);
-    SlicerAnswer {
-        number: answer.number as u64,
-        slicer: Slicer::of(answer.slicer),
-    }
+    let before = slicer::Slicer::from(slicer);
+    SlicerAnswer::of(before, before.change(format))
 }
 
 // How many blocks the waiting bits would yield in a format, if it were commanded, and how many bits would stay.
@@ -143,17 +176,5 @@ pub extern "C" fn sccc_slicer_change(slicer: Slicer, format: u64) -> SlicerAnswe
 pub extern "C" fn sccc_slicer_look(slicer: Slicer, format: u64) -> LookAnswer
     ensures { result ≡ look_struct (looked (slicer_of slicer) format) }
 {
-    let answer = slicer::look(Slicer::told(slicer), format);
-    match answer {
-        Ahead::Yields { blocks, bits } => LookAnswer {
-            number: PASSED,
-            blocks: blocks as u64,
-            bits: bits as u64,
-        },
-        Ahead::Refused(number) => LookAnswer {
-            number: number as u64,
-            blocks: 0,
-            bits: 0,
-        },
-    }
+    LookAnswer::from(slicer::Slicer::from(slicer).look(format))
 }
