@@ -16,6 +16,14 @@ pub struct SegmentStates {
     pub started: [u8; SEGMENTS],
 }
 
+impl SegmentStates {
+    // The states of a refusal.
+    const NONE: SegmentStates = SegmentStates {
+        ended: [0; SEGMENTS],
+        started: [0; SEGMENTS],
+    };
+}
+
 impl From<States> for SegmentStates {
     ghost from_gives = { λ below states. states ≡ states_struct below };
 
@@ -46,8 +54,8 @@ impl From<Result<Segmented, Refusal>> for SegmentsAnswer {
             },
             Err(refusal) => SegmentsAnswer {
                 number: refused(refusal),
-                outer: SegmentStates::from(States::NONE),
-                inner: SegmentStates::from(States::NONE),
+                outer: SegmentStates::NONE,
+                inner: SegmentStates::NONE,
             },
         }
     }

@@ -1,6 +1,5 @@
 -- Behind encode's checks, each return rewrites with the tests that led there.
-use mathlib.Core.Path.{◌≡◌, sym, ap, ◌∙◌}
-use mathlib.Core.Bool.{true}
+use mathlib.Core.Path.{sym, ap, ◌∙◌}
 use Rattle.std.proofs.lemmas.Result.{err_from_is_err_and}
 use Rattle.bits.proofs.Refusals.{not_passed}
 use Rattle.acm.specs.Formats.{format_of}

@@ -1,10 +1,10 @@
 -- A call that fails a check returns before it writes; one that passes leaves what encode leaves, since the segmented trellises do, before the
 -- same pieces.
-use mathlib.Core.Path.{◌≡◌, sym, ap, ap₂, subst, ◌∙◌}
+use mathlib.Core.Path.{sym, ap, ap₂, subst, ◌∙◌}
 use mathlib.Core.List.{List, ◌++◌}
 use Prim.Native.Nat.{ℕ}
 use native.Mathlib.Omega.{arith}
-use lib.ListN.{length, take, drop}
+use lib.ListN.{length, drop}
 use Rattle.std.proofs.lemmas.Result.{err_from_is_err_and}
 use Rattle.bits.specs.Checks.{passed}
 use Rattle.bits.proofs.Passed.{when_passed}
@@ -20,7 +20,7 @@ use Rattle.encoder.proofs.Codewords.{part-bits, part-long, part-even, lent_is, l
 use Rattle.cuts.specs.Cuts.{Cuts, states_of}
 use Rattle.cuts.specs.declared.States.{States}
 use Rattle.segments.specs.Calls.{Segmented, refused, segmented, segments_workspace, segments_output}
-use Rattle.segments.proofs.Checked.{SegmentsPassed, segments_passed-at, work-read, work-bits}
+use Rattle.segments.proofs.Checked.{segments_passed-at, work-read, work-bits}
 use Rattle.segments.proofs.encode_segments.Goals as goal
 
 pub returns-in_err-format-clause-answer : goal.returns-in_err-format-clause-answer
@@ -81,7 +81,7 @@ encode-of_inner-requires-clause-cuts c =
     let p = encode_passed _ _ _ _ s.encodes in (
       s.inner_cuts,
       rw (c.encode-of_outer.ensures.work_after, lent_is _ block c.record-k1.ensures)
-      (work-bits n p.known (trellis_part n block) _ (outer-long _ p.known block p.long) (part-bits _ block p.bits)),
+          (work-bits n p.known (trellis_part n block) _ (outer-long _ p.known block p.long) (part-bits _ block p.bits)),
     )
 
 pub returns-clause-answer : goal.returns-clause-answer
@@ -96,10 +96,10 @@ returns-clause-answer c =
     let part-is = lent_is n a.block.now c.record-k1.ensures in
     let outer-states = c.encode-of_outer.ensures.value ∙ ap (states_of a.outer.now) part-is in
     let inner-states =
-        c.encode-of_inner.ensures.value
-        ∙ ap (λ (l : List ℕ). states_of a.inner.now (interleaved (format_of n) (π n) l))
-          (c.encode-of_outer.ensures.work_after ∙ ap (λ (l : List ℕ). outer l ++ drop (length (outer l)) a.work.now) part-is)
-        ∙ ap (states_of a.inner.now) (work-read n p.known part _ (outer-long _ p.known a.block.now p.long)) in
+    c.encode-of_inner.ensures.value
+    ∙ ap (λ (l : List ℕ). states_of a.inner.now (interleaved (format_of n) (π n) l))
+    (c.encode-of_outer.ensures.work_after ∙ ap (λ (l : List ℕ). outer l ++ drop (length (outer l)) a.work.now) part-is)
+    ∙ ap (states_of a.inner.now) (work-read n p.known part _ (outer-long _ p.known a.block.now p.long)) in
     ap₂ {C = Segmented} (λ (o i : States). (record { number = passed; outer = o; inner = i })) outer-states inner-states ∙ when_passed _ _ _ s.passes
     ∙ ap (λ (f : ℕ). segmented f a.block.now (length a.work.now) (length a.out.now) a.outer.now a.inner.now) is
 
@@ -110,8 +110,8 @@ returns-clause-workspace c =
     let s = segments_passed-at is c.in_ok-format.ensures.number in
     let p = encode_passed _ _ _ _ s.encodes in
     rw (← is) (
-      c.encode-of_outer.ensures.work_after ∙ work-written _ p.known c.args.block.now p.long c.args.work.now c.record-k1.ensures
-      ∙ when_passed _ _ _ s.encodes ∙ when_passed _ _ _ s.passes
+    c.encode-of_outer.ensures.work_after ∙ work-written _ p.known c.args.block.now p.long c.args.work.now c.record-k1.ensures
+    ∙ when_passed _ _ _ s.encodes ∙ when_passed _ _ _ s.passes
     )
 
 pub returns-clause-output : goal.returns-clause-output
@@ -122,9 +122,9 @@ returns-clause-output c =
     let s = segments_passed-at is c.in_ok-format.ensures.number in
     let p = encode_passed _ _ _ _ s.encodes in
     rw (← is) (
-      c.encode-of_inner.ensures.out_after
-      ∙ ap₂ (λ (l out : List ℕ). from_outer n l ++ drop (N1 (format_of n)) out)
-      (c.encode-of_outer.ensures.work_after ∙ work-written _ p.known c.args.block.now p.long c.args.work.now c.record-k1.ensures) c.put_pieces.ensures
-      ∙ both-written n p.known c.args.block.now p.long _ c.args.out.now p.out-fits
-      ∙ when_passed _ _ _ s.encodes ∙ when_passed _ _ _ s.passes
+    c.encode-of_inner.ensures.out_after
+    ∙ ap₂ (λ (l out : List ℕ). from_outer n l ++ drop (N1 (format_of n)) out)
+    (c.encode-of_outer.ensures.work_after ∙ work-written _ p.known c.args.block.now p.long c.args.work.now c.record-k1.ensures) c.put_pieces.ensures
+    ∙ both-written n p.known c.args.block.now p.long _ c.args.out.now p.out-fits
+    ∙ when_passed _ _ _ s.encodes ∙ when_passed _ _ _ s.passes
     )

@@ -1,5 +1,5 @@
 -- Behind encode's checks, each return rewrites with the tests that led there.
-use mathlib.Core.Path.{◌≡◌, sym, ap, ◌∙◌}
+use mathlib.Core.Path.{sym, ap, ◌∙◌}
 use Rattle.std.proofs.lemmas.Result.{err_from_is_err_and}
 use Rattle.bits.proofs.Refusals.{not_passed}
 use Rattle.acm.specs.Formats.{format_of}
@@ -30,7 +30,7 @@ returns-clause-number c =
     let known = c.in_ok-format.ensures in
     let is = c.record-size.ensures ∙ ap format_of known.format_value in
     elim c.else-held-size.branch [
-      else-held-size-via-then-held-size+else-not-holds w ↦
+      | else-held-size-via-then-held-size+else-not-holds w ↦
           right_entries _ _ _ _ c.args.memory.now c.args.held (sym known.number) is c.if-memory-size.false w.if-held-size.true
           (sym (rw known.format_value at w.if-not-holds.ensures))
       | else-held-size-via-else-held-size w ↦

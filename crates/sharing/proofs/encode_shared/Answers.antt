@@ -1,10 +1,10 @@
 -- A call that fails a check returns before it writes; one that passes prepares the memory, and leaves what encode leaves, since the inner trellis
 -- does, before the same pieces.
-use mathlib.Core.Path.{◌≡◌, refl, sym, ap, ap₂, ◌∙◌}
+use mathlib.Core.Path.{refl, sym, ap, ap₂, ◌∙◌}
 use mathlib.Core.List.{List, ◌++◌}
 use Prim.Native.Nat.{ℕ}
 use native.Mathlib.Omega.{arith}
-use lib.ListN.{length, drop}
+use lib.ListN.{drop}
 use Rattle.std.proofs.lemmas.Result.{err_from_is_err_and}
 use Rattle.bits.specs.Checks.{passed}
 use Rattle.bits.proofs.Passed.{when_passed}
@@ -16,7 +16,7 @@ use Rattle.encoder.specs.Calls.{encode_workspace, encode_output}
 use Rattle.encoder.proofs.Checked.{encode_passed}
 use Rattle.encoder.proofs.Codewords.{part-even, lent_is, lent_long, outer-long, trellis-room, work-written, both-written}
 use Rattle.sharing.specs.Calls.{Shared, shared, shared_memory, shared_workspace, shared_output}
-use Rattle.sharing.proofs.Checked.{SharedPassed, shared_passed-at}
+use Rattle.sharing.proofs.Checked.{shared_passed-at}
 use Rattle.sharing.proofs.encode_shared.Goals as goal
 
 pub returns-in_err-format-clause-answer : goal.returns-in_err-format-clause-answer
@@ -91,8 +91,8 @@ returns-clause-workspace c =
     let s = shared_passed-at is c.in_ok-format.ensures.number in
     let p = encode_passed _ _ _ _ s.encodes in
     rw (← is) (
-      c.outer.ensures ∙ work-written _ p.known c.args.block.now p.long c.args.work.now c.record-k1.ensures
-      ∙ when_passed _ _ _ s.encodes ∙ when_passed _ _ _ s.passes
+    c.outer.ensures ∙ work-written _ p.known c.args.block.now p.long c.args.work.now c.record-k1.ensures
+    ∙ when_passed _ _ _ s.encodes ∙ when_passed _ _ _ s.passes
     )
 
 pub returns-clause-output : goal.returns-clause-output
@@ -103,11 +103,11 @@ returns-clause-output c =
     let s = shared_passed-at is c.in_ok-format.ensures.number in
     let p = encode_passed _ _ _ _ s.encodes in
     rw (← is) (
-      c.encode.ensures
-      ∙ ap₂ (λ (l out : List ℕ). from_outer n l ++ drop (N1 (format_of n)) out)
-      (c.outer.ensures ∙ work-written _ p.known c.args.block.now p.long c.args.work.now c.record-k1.ensures) c.put_pieces.ensures
-      ∙ both-written n p.known c.args.block.now p.long _ c.args.out.now p.out-fits
-      ∙ when_passed _ _ _ s.encodes ∙ when_passed _ _ _ s.passes
+    c.encode.ensures
+    ∙ ap₂ (λ (l out : List ℕ). from_outer n l ++ drop (N1 (format_of n)) out)
+    (c.outer.ensures ∙ work-written _ p.known c.args.block.now p.long c.args.work.now c.record-k1.ensures) c.put_pieces.ensures
+    ∙ both-written n p.known c.args.block.now p.long _ c.args.out.now p.out-fits
+    ∙ when_passed _ _ _ s.encodes ∙ when_passed _ _ _ s.passes
     )
 
 pub returns-clause-interleaver : goal.returns-clause-interleaver
