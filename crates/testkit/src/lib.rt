@@ -3,7 +3,6 @@
 #![tactic(auto)]
 
 ghost use Rattle.std.specs.Prelude.{◌≡◌, length};
-ghost use Rattle.std.specs.Iterator.{IsFinite};
 
 use std::fmt::Display;
 use std::io;
@@ -31,15 +30,13 @@ pub fn end_row(rt: &impl Print) -> io::Result<()> {
     println!(rt)
 }
 
-// The digest of a list, as a field: from 1 on, d becomes (1000003 d + x + 1) modulo 4294967291 at each element x.
-pub fn print_digest<T: Into<u16>, I: Iterator<Item = T> + Drop>(
-    rt: &impl Print,
-    list: I,
-) -> io::Result<()>
-    requires can { I.can_next list }
-    requires ends { IsFinite (I.remaining list) }
-{
-    print_field(rt, list.fold(1, |d, x| mixed(d, x.into())))
+// What counts of an element where the whole does.
+pub const WHOLE: u16 = u16::MAX;
+
+// The digest of a list, as a field: from 1 on, d becomes (1000003 d + x + 1) modulo 4294967291 at each element x, of which only the bits of the
+// mask count.
+pub fn print_digest<T: Copy + Into<u16>>(rt: &impl Print, list: &[T], mask: u16) -> io::Result<()> {
+    print_field(rt, list.iter().fold(1, |d, &x| mixed(d, x.into() & mask)))
 }
 
 // A digest with one element more.

@@ -1,3 +1,4 @@
+pub mod Bits
 pub mod Checked
 pub mod Joined
 pub mod Linear

@@ -47,14 +47,21 @@ impl State {
     // The state 00, in which a run begins and ends.
     pub const ZERO: State = State { x0: 0, x1: 0 };
 
+    // The state with two bits, each the lowest of a number: every sum here is modulo 2, and so no other bit of them counts.
+    pub fn of(x0: u8, x1: u8) -> State
+        ensures { result ≡ (x0 % 2, x1 % 2) }
+    {
+        State {
+            x0: x0 % 2,
+            x1: x1 % 2,
+        }
+    }
+
     // The state whose number is the two lowest bits of `number`.
     pub fn from_low_bits(number: u8) -> State
         ensures { result ≡ (number / 2 % 2, number % 2) }
     {
-        State {
-            x0: number / 2 % 2,
-            x1: number % 2,
-        }
+        State::of(number / 2, number)
     }
 
     // The parity bit of a step on u. Only u is taken modulo 2, since the state's bits are bits: a remainder of the sum would keep the next step

@@ -1,7 +1,7 @@
 // For every ACM format and six blocks, the digests of the outer kept bits, of the codeword and of its labels.
 use acm::AcmFormat;
 use std::{fmt, io};
-use testkit::{UNTOUCHED, buffer, front, print_digest};
+use testkit::{UNTOUCHED, WHOLE, buffer, front, print_digest};
 
 // A block of a format: one of document 01's patterns, which are all zeros, all ones, and a single one at place 0, or a seeded block.
 #[derive(Clone, Copy, Debug, PartialEq, Eq)]
@@ -69,8 +69,8 @@ fn print_codeword(rt: &impl Print, format: AcmFormat, block: &[u8]) -> io::Resul
     let _ = encoder::encode(format.number, block, &mut work, &mut codeword);
     let codeword = front(&codeword, f.n);
     let _ = encoder::labels(format.number, codeword, &mut labels);
-    print_digest(rt, front(&work, f.i).iter().copied())?;
-    print_digest(rt, codeword.iter().copied())?;
-    print_digest(rt, front(&labels, acm::SYMBOLS).iter().copied())?;
+    print_digest(rt, front(&work, f.i), WHOLE)?;
+    print_digest(rt, codeword, WHOLE)?;
+    print_digest(rt, front(&labels, acm::SYMBOLS), WHOLE)?;
     testkit::end_row(rt)
 }

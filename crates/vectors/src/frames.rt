@@ -3,12 +3,15 @@
 use acm::AcmFormat;
 use framing::{FRAME_LABELS, PILOTS_OFF, PILOTS_ON};
 use std::io;
-use testkit::{buffer, front, front_mut, print_digest};
+use testkit::{WHOLE, buffer, front, front_mut, print_digest};
 
 // Bits of the frame marker, and of the frame descriptor behind it.
 const MARKER: usize = 256;
 
 const DESCRIPTOR: usize = 64;
+
+// What counts of a slot of the header, 256 or 257: its last bit, which is the header's.
+const LAST_BIT: u16 = 1;
 
 // Blocks of a frame.
 const BLOCKS: u64 = 16;
@@ -37,14 +40,13 @@ fn print_frame(rt: &impl Print, format: AcmFormat, pilots: u64, labels: &[u8]) -
     print_digests(rt, labels, front(&slots, framing::frame_length(pilots)))
 }
 
-// A slot of the header is 256 or 257: its last bit is the header's.
 fn print_digests(rt: &impl Print, labels: &[u8], frame: &[u16]) -> io::Result<()> {
-    let marker = frame.iter().take(MARKER);
-    let descriptor = frame.iter().skip(MARKER).take(DESCRIPTOR);
-    print_digest(rt, marker.map(|&slot| slot & 1))?;
-    print_digest(rt, descriptor.map(|&slot| slot & 1))?;
-    print_digest(rt, labels.iter().copied())?;
-    print_digest(rt, frame.iter().copied())?;
+    let header = front(frame, MARKER + DESCRIPTOR);
+    let (marker, descriptor) = header.split_at(MARKER.min(header.len()));
+    print_digest(rt, marker, LAST_BIT)?;
+    print_digest(rt, descriptor, LAST_BIT)?;
+    print_digest(rt, labels, WHOLE)?;
+    print_digest(rt, frame, WHOLE)?;
     testkit::end_row(rt)
 }
 
