@@ -1,5 +1,5 @@
 // What the inner encoder works with in a format.
-ghost use Rattle.std.specs.Prelude.{◌≡◌, ◌+◌, ◌*◌, ◌≤◌, ◌<◌, length, eqb};
+ghost use Rattle.std.specs.Prelude.{◌≡◌, ℕ, ◌+◌, ◌*◌, ◌≤◌, ◌<◌, length, get_or, eqb};
 ghost use Rattle.acm.specs.Formats.{M, format_of};
 ghost use Rattle.annex_c.specs.AnnexC.{size_of};
 ghost use Rattle.interleaver.specs.Interleaver.{π};
@@ -40,13 +40,16 @@ impl Parameters {
         }
     }
 
-    // The mark of the position that is read at a row of a column: 1 if the upper register keeps its bit, 0 if it is punctured.
-    pub fn mark_in(&self, column: usize, row: usize) -> u8
-        requires { (column < M) × (row < length self.now.permutation.alpha.now) }
+    // The mark of the position that is read in a column at the row with these elements of α and β: 1 if the upper register keeps its bit, 0 if it
+    // is punctured.
+    pub fn mark_of(&self, column: usize, address: u16, shift: u8) -> u8
+        requires { (column < M) × (shift < M) × (address < length self.now.permutation.alpha.now) }
         ensures low { result ≤ 1 }
-        ensures value { eqb result 1 ≡ survives (format_of self.now.format.number).survivors (π self.now.format.number (length self.now.permutation.alpha.now * column + row)) }
+        ensures value { (row : ℕ) → row < length self.now.permutation.alpha.now → address ≡ get_or self.now.permutation.alpha.now row 0 → shift ≡ get_or self.now.permutation.beta.now row 0 → eqb result 1 ≡ survives (format_of self.now.format.number).survivors (π self.now.format.number (length self.now.permutation.alpha.now * column + row)) }
     {
-        let residue = self.permutation.residue_in(&self.residues, column, row);
+        let residue = self
+            .permutation
+            .residue_of(&self.residues, column, address, shift);
         self.pattern[residue]
     }
 }

@@ -83,10 +83,15 @@ impl Progress {
         let f = parameters.figures;
         let walk = self.walk;
         let rows = to - walk.position.0;
+        let alpha = &parameters.permutation.alpha[walk.row..walk.row + rows];
+        let beta = &parameters.permutation.beta[walk.row..walk.row + rows];
         let mut coder = self.coder;
-        for row in walk.row..walk.row + rows {
-            let position = parameters.permutation.position_in(walk.column, row);
-            let mark = parameters.mark_in(walk.column, row);
+        for (i, &address) in alpha.iter().enumerate() {
+            let shift = beta[i];
+            let position = parameters
+                .permutation
+                .position_of(walk.column, address, shift);
+            let mark = parameters.mark_of(walk.column, address, shift);
             coder = coder.turn(f.i, f.delta, mark, work[position.number()], out);
         }
         Progress {

@@ -74,10 +74,10 @@ module _ (α β : List ℕ) (v : Vectors α β) (column row : ℕ) (c : column <
       let bank : length α * (sum % M) < M * length α = omega (arith, inside (length α) (sum % M) 0 (omega arith) (mod-lt sum (omega arith))) in
       rw permuted-in (ap (λ (k : ℕ). k + get_or α row 0) (m.entry sum sum_low ∙ mod-eq_of_lt bank))
 
-  module _ (P : ℕ) (some : 0 < P) (residues : List ℕ) (m : Multiples (length α) P residues) where
-    pub residue_in : (get_or residues sum 0 + get_or α row 0) % P ≡ position % P
-    residue_in =
-        rw permuted-in (ap (λ (k : ℕ). (k + get_or α row 0) % P) (m.entry sum sum_low) ∙ mod-add-mod (length α * (sum % M)) P (get_or α row 0))
+  pub residue_in : (P : ℕ) (residues : List ℕ) → Multiples (length α) P residues → (get_or residues sum 0 + get_or α row 0) % P ≡ position % P
+  residue_in P residues m =
+      rw permuted-in (ap (λ (k : ℕ). (k + get_or α row 0) % P) (m.entry sum sum_low) ∙ mod-add-mod (length α * (sum % M)) P (get_or α row 0))
 
-    pub residue_low : get_or residues sum 0 + get_or α row 0 < P + length α
-    residue_low = omega (arith, m.entry sum sum_low, mod-lt (length α * (sum % M)) some, v.α_range row r)
+-- an entry of a table of multiples
+pub entry_low : {W P : ℕ} {l : List ℕ} → Multiples W P l → 0 < P → (j : ℕ) → j < 2 * M → get_or l j 0 < P
+entry_low {W} {P} m some j h = rw (m.entry j h) (mod-lt (W * (j % M)) some)

@@ -46,31 +46,35 @@ impl Permutation {
         self.alpha.len()
     }
 
-    // The interleaved position of a row in a column, by equation A-1. Nothing is divided.
+    // The interleaved position of a row in a column.
     pub fn position_in(&self, column: usize, row: usize) -> InterleavedPosition
         requires { (column < M) × (row < length self.now.alpha.now) }
         ensures { result.0 ≡ permuted self.now.alpha.now self.now.beta.now (length self.now.alpha.now * column + row) }
     {
-        InterleavedPosition(self.looked_up(&self.starts, column, row))
+        self.position_of(column, self.alpha[row], self.beta[row])
     }
 
-    // A number that leaves what the interleaved position of a row in a column leaves when divided by P; `residues` has W × bank modulo P. It is
-    // below P + W.
-    pub fn residue_in(&self, residues: &[u16; BANKS], column: usize, row: usize) -> usize
-        requires { (column < M) × (row < length self.now.alpha.now) }
-        ensures { (P : ℕ) → 0 < P → Multiples (length self.now.alpha.now) P residues.now → (result % P ≡ permuted self.now.alpha.now self.now.beta.now (length self.now.alpha.now * column + row) % P) × (result < P + length self.now.alpha.now) }
+    // The same of the row with these elements of α and β, by equation A-1. Nothing is divided.
+    pub fn position_of(&self, column: usize, address: u16, shift: u8) -> InterleavedPosition
+        requires { (column < M) × (shift < M) }
+        ensures { (row : ℕ) → row < length self.now.alpha.now → address ≡ get_or self.now.alpha.now row 0 → shift ≡ get_or self.now.beta.now row 0 → result.0 ≡ permuted self.now.alpha.now self.now.beta.now (length self.now.alpha.now * column + row) }
     {
-        self.looked_up(residues, column, row)
+        InterleavedPosition(looked_up(&self.starts, column, address, shift))
     }
 
-    // The entry of a row's bank in a column, and the row's α added.
-    fn looked_up(&self, banks: &[u16; BANKS], column: usize, row: usize) -> usize
-        requires { (column < M) × (row < length self.now.alpha.now) }
-        ensures { result ≡ get_or banks.now (column + get_or self.now.beta.now row 0) 0 + get_or self.now.alpha.now row 0 }
+    // A number that leaves what that position leaves when divided by P; `residues` has W × bank modulo P. It is below P + α.
+    pub fn residue_of(
+        &self,
+        residues: &[u16; BANKS],
+        column: usize,
+        address: u16,
+        shift: u8,
+    ) -> usize
+        requires { (column < M) × (shift < M) }
+        ensures low { (P : ℕ) → 0 < P → Multiples (length self.now.alpha.now) P residues.now → result < P + address }
+        ensures leaves { (P row : ℕ) → Multiples (length self.now.alpha.now) P residues.now → row < length self.now.alpha.now → address ≡ get_or self.now.alpha.now row 0 → shift ≡ get_or self.now.beta.now row 0 → result % P ≡ permuted self.now.alpha.now self.now.beta.now (length self.now.alpha.now * column + row) % P }
     {
-        let shift = usize::from(self.beta[row]);
-        let address = usize::from(self.alpha[row]);
-        usize::from(banks[column + shift]) + address
+        looked_up(residues, column, address, shift)
     }
 
     // Where a walk to position `to` stops next: at the end of its column, or at `to` if that comes first.
@@ -138,6 +142,14 @@ pub fn held(format: AcmFormat, memory: &[u16], position: UpperPosition) -> Inter
     ensures { result.0 ≡ π format.number position.0 }
 {
     InterleavedPosition(usize::from(memory[position.0]))
+}
+
+// The entry of a row's bank in a column, and the row's α added.
+fn looked_up(banks: &[u16; BANKS], column: usize, address: u16, shift: u8) -> usize
+    requires { (column < M) × (shift < M) }
+    ensures { result ≡ get_or banks.now (column + shift) 0 + address }
+{
+    usize::from(banks[column + usize::from(shift)]) + usize::from(address)
 }
 
 // W × bank modulo a period, for each of the banks, made by adding W.

@@ -1,0 +1,9 @@
+-- The table has W × bank, so that the row's α added to it is A-1.
+use mathlib.Core.Path.{◌∙◌}
+use Rattle.interleaver.proofs.Walks.{interleaved-in}
+use Rattle.interleaver.proofs.steps.Permutation.position_of.Goals as goal
+
+pub returns : goal.returns
+returns c row h α β =
+    let p = c.args.self.now in
+    rw (c.looked_up.ensures, α, β) (interleaved-in _ _ p.ranges c.args.column row c.requires.0 h p.starts p.starts_are)
