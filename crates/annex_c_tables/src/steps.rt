@@ -6,6 +6,9 @@ ghost use Rattle.annex_c_tables.specs.Flat.{Tables, rows_before};
 
 use crate::tables;
 
+// W of the largest size.
+pub const WIDEST: usize = 546;
+
 // The vectors of a size, lent from the tables.
 #[derive(Clone, Copy)]
 pub struct SizeVectors {

@@ -83,11 +83,10 @@ impl Progress {
         let f = parameters.figures;
         let walk = self.walk;
         let rows = to - walk.position.0;
-        let alpha = &parameters.permutation.alpha[walk.row..walk.row + rows];
-        let beta = &parameters.permutation.beta[walk.row..walk.row + rows];
         let mut coder = self.coder;
-        for (i, &address) in alpha.iter().enumerate() {
-            let shift = beta[i];
+        for row in walk.row..walk.row + rows {
+            let address = parameters.alpha[row];
+            let shift = parameters.beta[row];
             let position = parameters
                 .permutation
                 .position_of(walk.column, address, shift);
