@@ -81,20 +81,21 @@ impl Progress {
         ensures state_value { state_in result.coder ≡ ends (state_in self.coder) (reads (π parameters.now.format.number) work.now to self.walk.position.0) }
     {
         let f = parameters.figures;
-        let walk = self.walk;
-        let rows = to - walk.position.0;
+        let mut walk = self.walk;
         let mut coder = self.coder;
-        for row in walk.row..walk.row + rows {
-            let address = parameters.alpha[row];
-            let shift = parameters.beta[row];
+        // A `for` over the rows takes 1.1 times as long: it needs more registers than there are.
+        while walk.position.0 < to {
+            let address = parameters.alpha[walk.row];
+            let shift = parameters.beta[walk.row];
             let position = parameters
                 .permutation
                 .position_of(walk.column, address, shift);
             let mark = parameters.mark_of(walk.column, address, shift);
             coder = coder.turn(f.i, f.delta, mark, work[position.number()], out);
+            walk = walk.down();
         }
         Progress {
-            walk: parameters.permutation.carry(walk.down(rows)),
+            walk: parameters.permutation.carry(walk),
             coder,
         }
     }

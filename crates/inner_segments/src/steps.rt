@@ -74,7 +74,7 @@ impl Run {
         while walk.position.0 < to {
             let position = parameters.permutation.position_in(walk.column, walk.row);
             state = state.next(work[position.number()]);
-            walk = parameters.permutation.carry(walk.down(1));
+            walk = parameters.permutation.carry(walk.down());
         }
         Run { walk, state }
     }

@@ -8,7 +8,7 @@ use lib.ListN.{length, get_or}
 use Rattle.acm.specs.Formats.{M}
 use Rattle.annex_c.specs.AnnexC.{Vectors}
 use Rattle.interleaver.specs.Interleaver.{permuted}
-use Rattle.interleaver.specs.Walk.{Walked, InColumn, Multiples, down_by}
+use Rattle.interleaver.specs.Walk.{Walked, InColumn, Multiples, down_one}
 use Rattle.interleaver.specs.declared.steps.Walk.{Walk}
 use Rattle.interleaver.proofs.Laws.{row_low, bank_low, row_of, bank_of, inside}
 
@@ -50,8 +50,8 @@ in_first W at first walked =
     let column : at.column ≡ 0 = omega (arith, walked.column-is, first) in
     (record { position-is = omega (arith, ap (λ (k : ℕ). W * k) column); row_low = omega arith }, column)
 
-pub in_column_down : (W n : ℕ) (at : Walk) → InColumn W at → at.row + n ≤ W → InColumn W (down_by n at)
-in_column_down W n at c h = record { position-is = omega (arith, c.position-is); row_low = omega arith }
+pub in_column_down : (W : ℕ) (at : Walk) → InColumn W at → at.row < W → InColumn W (down_one at)
+in_column_down W at c h = record { position-is = omega (arith, c.position-is); row_low = omega arith }
 
 -- equation A-1 at a row of a column; its bank is the column and the row's β, added, modulo M
 module _ (α β : List ℕ) (v : Vectors α β) (column row : ℕ) (c : column < M) (r : row < length α) where

@@ -13,9 +13,9 @@ pub record InColumn (W : ℕ) (at : Walk) : Type 0 where
   pub position-is : at.position.0 ≡ W * at.column + at.row
   pub row_low : at.row ≤ W
 
--- n rows on
-abbrev pub down_by : ℕ → Walk → Walk
-down_by n at = record { position = record { 0 = at.position.0 + n }; row = at.row + n; column = at.column }
+-- one row on
+abbrev pub down_one : Walk → Walk
+down_one at = record { position = record { 0 = at.position.0 + 1 }; row = at.row + 1; column = at.column }
 
 -- W × bank modulo P, for each such sum
 pub record Multiples (W P : ℕ) (l : List ℕ) : Type 0 where

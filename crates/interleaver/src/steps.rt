@@ -5,7 +5,7 @@ ghost use Rattle.acm.specs.Formats.{M, format_of};
 ghost use Rattle.annex_c.specs.AnnexC.{Vectors, widest, size_of};
 ghost use Rattle.interleaver.specs.Interleaver.{permuted, π};
 ghost use Rattle.interleaver.specs.Expanded.{expands};
-ghost use Rattle.interleaver.specs.Walk.{Walked, InColumn, Multiples, down_by};
+ghost use Rattle.interleaver.specs.Walk.{Walked, InColumn, Multiples, down_one};
 
 use crate::{InterleavedPosition, M, UpperPosition};
 use acm::AcmFormat;
@@ -123,14 +123,14 @@ impl Walk {
         }
     }
 
-    // So many rows on in the column: nothing is carried.
-    pub fn down(self, rows: usize) -> Walk
-        requires { (self.row ≤ self.position.0) × (self.position.0 + rows ≤ M * widest) }
-        ensures { result ≡ down_by rows self }
+    // One row on in the column: nothing is carried.
+    pub fn down(self) -> Walk
+        requires { (self.row ≤ self.position.0) × (self.position.0 < M * widest) }
+        ensures { result ≡ down_one self }
     {
         Walk {
-            position: UpperPosition(self.position.0 + rows),
-            row: self.row + rows,
+            position: UpperPosition(self.position.0 + 1),
+            row: self.row + 1,
             column: self.column,
         }
     }

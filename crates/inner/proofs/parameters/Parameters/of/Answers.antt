@@ -1,5 +1,5 @@
-use mathlib.Core.Path.{◌≡◌, sym}
-use lib.ListN.{length, get_or-append}
+use mathlib.Core.Path.{◌≡◌}
+use lib.ListN.{length}
 use Rattle.interleaver.proofs.Formats.{format-rows}
 use Rattle.inner.proofs.parameters.Parameters.of.Goals as goal
 

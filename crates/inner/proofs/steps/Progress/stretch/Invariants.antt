@@ -1,21 +1,25 @@
--- At each row what is left to store are the registers of the bits that are yet to be read.
+-- At each position the walk's row and column are right, and what is left to store are the registers of the bits that are yet to be read.
 use mathlib.Core.Path.{◌≡◌}
-use Prim.Native.Nat.{◌+◌, ◌*◌, ◌<◌}
+use Prim.Native.Nat.{◌-◌, ◌≤◌, ◌<◌}
 use lib.ListN.{length}
 use Rattle.acm.specs.Formats.{format_of}
 use Rattle.trellis.specs.Trellis.{ends}
 use Rattle.interleaver.specs.Interleaver.{π}
+use Rattle.interleaver.specs.Walk.{InColumn}
 use Rattle.coder.specs.Coder.{state_in}
 use Rattle.inner.specs.Left.{reads, completed}
 use Rattle.inner.proofs.Turns.{Going}
 use Rattle.inner.proofs.steps.Progress.stretch.Given as goal
 
-abbrev pub invariant-loop-row : goal.invariant-loop-row
-invariant-loop-row l =
+abbrev pub invariant-loop-walk : goal.invariant-loop-walk
+invariant-loop-walk l =
     let f = l.parameters.format.number in
     let r = format_of f in
-    let from = l.walk.position.0 in
-    let i = length l.parameters.permutation.alpha.now * l.walk.column + l.row in
-    (l.coder.counter < r.i)
-    × Going r (π f) l.work (length l.initial.out) (completed r (π f) l.work from l.initial.coder l.initial.out) l.out i l.coder
-    × (ends (state_in l.coder) (reads (π f) l.work l.to i) ≡ ends (state_in l.initial.coder) (reads (π f) l.work l.to from))
+    let i = l.walk.position.0 in
+    let from = l.initial in
+    (i ≤ l.to) × InColumn (length l.parameters.permutation.alpha.now) l.walk × (l.walk.column ≡ from.walk.column) × (l.coder.counter < r.i)
+    × Going r (π f) l.work (length from.out) (completed r (π f) l.work from.walk.position.0 from.coder from.out) l.out i l.coder
+    × (ends (state_in l.coder) (reads (π f) l.work l.to i) ≡ ends (state_in from.coder) (reads (π f) l.work l.to from.walk.position.0))
+
+abbrev pub decreases-loop-walk : goal.decreases-loop-walk
+decreases-loop-walk l = l.to - l.walk.position.0

@@ -60,7 +60,7 @@ pub carry-walk-requires : goal.carry-walk-requires
 carry-walk-requires c =
     let t = (goal.at.carry-walk-requires c).In-loop-walk in
     rw c.down.ensures (
-      in_column_down _ 1 c.loop-walk.walk (column t) (omega (arith, row t)),
+      in_column_down _ c.loop-walk.walk (column t) (row t),
       omega (arith, row t),
       walked-column _ c.loop-walk.walk c.loop-walk.invariant.1 (inside t),
     )

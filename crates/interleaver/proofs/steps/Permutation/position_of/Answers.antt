@@ -1,5 +1,4 @@
 -- The table has W × bank, so that the row's α added to it is A-1.
-use mathlib.Core.Path.{◌∙◌}
 use Rattle.interleaver.proofs.Walks.{interleaved-in}
 use Rattle.interleaver.proofs.steps.Permutation.position_of.Goals as goal
 
