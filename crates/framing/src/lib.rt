@@ -87,10 +87,20 @@ fn put_frame(format: AcmFormat, pilots: u64, labels: &[u8], out: &mut [u16])
     }
 }
 
-// The codeword section at a place from 0 to 15 (document 01: a part): 8,100 of the caller's own labels.
+// The codeword section at a place from 0 to 15: 8,100 of the caller's own labels, none where a check of try_section fails.
+pub fn section(labels: &[u8], place: u64) -> &[u8]
+    ensures { result.now ≡ section_labels labels.now place }
+{
+    match try_section(labels, place) {
+        Ok(part) => part,
+        Err(_) => &labels[..0],
+    }
+}
+
+// The same, or the check that fails.
 // Checks: 2, there are 129,600 labels; 8, the place is 0 to 15.
 #[tactic(auto, using(std::proofs::lemmas::Bool::Decides::nat_tests), unfolding(crate::specs::Calls::section_number))]
-pub fn section(labels: &[u8], place: u64) -> Result<&[u8], Refusal>
+pub fn try_section(labels: &[u8], place: u64) -> Result<&[u8], Refusal>
     ensures number { number_of result ≡ section_number labels.now place }
     ensures part { IfOk result (λ part. part.now ≡ section_labels labels.now place) }
 {

@@ -27,8 +27,10 @@ pub(crate) fn section(rt: &impl Print, mut row: Row) -> io::Result<()> {
     let count = row.number();
     let place = row.number();
     let mut labels = buffer(0);
-    testkit::set(&mut labels, row.number(), 1);
-    let part = framing::section(front(&labels, count), place);
+    if let Some(label) = labels.get_mut(row.number::<usize>()) {
+        *label = 1;
+    }
+    let part = framing::try_section(front(&labels, count), place);
     print_answer(
         rt,
         part.map(|part| [part.len(), number(part.first()), number(part.last())]),

@@ -213,7 +213,7 @@ pub struct SectionRange {
 pub extern "C" fn sccc_section(labels: &[u8], place: u64) -> SectionRange
     ensures { result ≡ range_struct labels.now place }
 {
-    match framing::section(labels, place) {
+    match framing::try_section(labels, place) {
         Ok(_) => SectionRange {
             number: PASSED,
             start: place * acm::SYMBOLS as u64,

@@ -63,10 +63,3 @@ pub fn front_mut<T>(list: &mut [T], n: usize) -> &mut [T] {
     let n = n.min(list.len());
     &mut list[..n]
 }
-
-// Sets the element at a place, if there is one.
-pub fn set(list: &mut [u8], at: usize, value: u8) {
-    if let Some(element) = list.get_mut(at) {
-        *element = value;
-    }
-}

@@ -19,7 +19,9 @@ impl Block {
             Block::Ones => out.fill(1),
             Block::SingleOne => {
                 out.fill(0);
-                testkit::set(out, 0, 1);
+                if let Some(first) = out.first_mut() {
+                    *first = 1;
+                }
             }
             Block::Seeded(number) => {
                 testkit::fill_seeded(u64::from(number) * 1000 + format.number, out);

@@ -1,10 +1,7 @@
--- The part that is lent is 8,100 labels long.
-use native.Mathlib.Nat.{add-sub_cancel_left}
-use native.Mathlib.Omega.{arith}
-use Rattle.std.proofs.lemmas.Bool.Decides.{nat_tests}
-use Rattle.framing.specs.Calls.{section_labels, section_number}
+use Rattle.bits.proofs.Refusals.{when_err}
+use Rattle.framing.specs.Calls.{section_labels}
 use Rattle.framing.proofs.section.Goals as goal
 
-pub returns-clause-part : goal.returns-clause-part
-unfolding section_labels section_number
-returns-clause-part c = rw add-sub_cancel_left (grind (arith, nat_tests))
+pub returns-in-Err : goal.returns-in-Err
+unfolding section_labels
+returns-in-Err c = when_err _ _ _ _ c.in-Err.ensures.number
