@@ -50,7 +50,8 @@ impl Progress {
         }
     }
 
-    // The run from any position to any later one, a column's rest at a time: inside a column nothing is carried.
+    // The run from any position to any later one, a column's rest at a time: inside a column nothing is carried. A `for` over columns would have
+    // the first and the last of them apart, since a run begins and ends anywhere in one.
     pub fn advance(
         self,
         parameters: &Parameters,

@@ -25,18 +25,27 @@ pub struct Permutation {
 }
 
 impl Permutation {
-    // That of a format.
-    pub fn of_format(format: AcmFormat) -> Permutation
-        ensures alpha_value { result.alpha.now ≡ (size_of (format_of format.number).w).α }
-        ensures beta_value { result.beta.now ≡ (size_of (format_of format.number).w).β }
+    // That of two vectors.
+    pub fn over(alpha: &'static [u16], beta: &'static [u8]) -> Permutation
+        requires { Vectors alpha.now beta.now × (0 < length alpha.now) }
+        ensures alpha_value { result.alpha.now ≡ alpha.now }
+        ensures beta_value { result.beta.now ≡ beta.now }
     {
-        let w = format.record().w;
-        let SizeVectors { alpha, beta } = SizeVectors::of(w);
+        let w = alpha.len();
         Permutation {
             alpha,
             beta,
             starts: multiples(w, M * w),
         }
+    }
+
+    // That of a format.
+    pub fn of_format(format: AcmFormat) -> Permutation
+        ensures alpha_value { result.alpha.now ≡ (size_of (format_of format.number).w).α }
+        ensures beta_value { result.beta.now ≡ (size_of (format_of format.number).w).β }
+    {
+        let SizeVectors { alpha, beta } = SizeVectors::of(format.record().w);
+        Permutation::over(alpha, beta)
     }
 
     // W: the rows of a column.

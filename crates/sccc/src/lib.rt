@@ -260,7 +260,7 @@ impl From<Result<compare::Comparison, Refusal>> for Comparison {
     }
 }
 
-// Two lists of 8,100 labels of a format held against each other: it counts bits.
+// Two lists of 8,100 labels of a format held against each other: in how many bits they differ, and where first.
 // Checks: 1; 2, each list has 8,100 labels; 3, each label of either is below 2^m.
 #[unsafe(no_mangle)]
 pub extern "C" fn sccc_compare(format: u64, a: &[u8], b: &[u8]) -> Comparison

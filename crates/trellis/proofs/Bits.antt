@@ -1,6 +1,6 @@
 -- Of a state's bits no more counts than what they are modulo 2: a state of any two numbers steps and terminates as that of their lowest bits.
 use mathlib.Core.Path.{◌≡◌}
-use Prim.Native.Nat.{ℕ, ◌+◌, ◌%◌}
+use Prim.Native.Nat.{ℕ, ◌%◌}
 use native.Mathlib.Omega.{arith}
 use Rattle.bits.specs.Sum.{◌⊕◌}
 use Rattle.trellis.specs.Trellis.{parity, next, termination_of}
