@@ -1,16 +1,15 @@
 // Two label lists held against each other (document 01: the tally; document 02, L2: it counts bits).
 #![tactic(auto)]
 
-ghost use Rattle.std.specs.Prelude.{◌≡◌, ◌==◌, length, not, position};
-ghost use Rattle.std.specs.List.{zip};
+ghost use Rattle.std.specs.Prelude.{◌≡◌, ◌<◌, length, MatchOption};
 ghost use Rattle.bits.specs.Checks.{number_of};
 ghost use Rattle.acm.specs.Formats.{symbols};
-ghost use Rattle.compare.specs.Comparison.{answer_of, compared, compare_number, apart, differing_bits};
+ghost use Rattle.compare.specs.Comparison.{answer_of, compared, compare_number, apart, differing, differing_bits, first_place};
 
 use acm::{AcmFormat, SYMBOLS};
 use bits::Refusal;
 
-// The answer of a comparison.
+// The answer of a comparison. No `Option`: that the lists are the same is an answer of its own.
 #[derive(Clone, Copy, Debug, PartialEq, Eq)]
 pub enum Comparison {
     Same,
@@ -66,9 +65,19 @@ fn bits_apart(x: u8, y: u8) -> u32
     (x ^ y).count_ones()
 }
 
-// The first place at which two lists differ.
+// The first place at which two lists differ. By a loop that yields it by break, which the user asks for: `position` would do.
 fn first_differing(a: &[u8], b: &[u8]) -> Option<usize>
-    ensures { result ≡ position (λ p. not (p.0 == p.1)) (zip a.now b.now) }
+    requires { length a.now ≡ length b.now }
+    ensures { MatchOption result (differing a.now b.now ≡ 0) (λ first. (first ≡ first_place a.now b.now) × (first < length a.now)) }
 {
-    a.iter().zip(b).position(|(x, y)| x != y)
+    let mut i = 0;
+    loop {
+        if a.len() <= i {
+            break None;
+        }
+        if a[i] != b[i] {
+            break Some(i);
+        }
+        i += 1;
+    }
 }

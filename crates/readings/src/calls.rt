@@ -1,4 +1,4 @@
-// Which call a row asks for.
+// Which call a row asks for: by a `match` on its word, since each call reads the row in its own way and a table of closures would say no more.
 use crate::row::Row;
 use std::io;
 

@@ -2,6 +2,7 @@
 // An exported function can return neither a slice nor an enum, so the answers are structs: the number of the check that failed, 0 if none did,
 // and what was asked for, 64-bit numbers or, of segments, arrays of bytes. A refusal has 0 in every other field but a slicer and the size that a
 // memory holds, which it gives back.
+// Between C's 64-bit numbers and lengths stands `as`: std has no `From` there, and that nothing is lost is proved.
 #![tactic(auto)]
 
 ghost use Rattle.std.specs.Prelude.{◌≡◌, length};

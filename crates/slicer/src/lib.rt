@@ -28,7 +28,7 @@ pub struct Slicer {
     pub waiting: usize,
 }
 
-// The answer of a call for a block.
+// The answer of a call for a block. No `Option`: that the block has to wait is an answer of its own, and no slicer that is missing.
 #[derive(Clone, Copy, Debug, PartialEq, Eq)]
 pub enum Sliced {
     // A block is handed out.

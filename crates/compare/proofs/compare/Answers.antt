@@ -1,12 +1,13 @@
 -- The checks decide first, then whether a place differs; each exit is a case of the definition.
 use mathlib.Core.Path.{◌≡◌, sym, ◌∙◌}
+use native.Mathlib.Omega.{arith}
 use borrow.Author.Tests.{eq-eqb, ne_eqb}
 use lib.ListN.{length}
 use Rattle.bits.specs.Checks.{passed}
-use Rattle.compare.specs.Comparison.{compare_number}
+use Rattle.compare.specs.Comparison.{compare_number, differing}
 use Rattle.compare.proofs.Checked.{ComparePassed, compare_passed}
 use Rattle.compare.proofs.Laws.{byte_bits}
-use Rattle.compare.proofs.Places.{found, not_found}
+use Rattle.compare.proofs.Places.{nowhere-first}
 use Rattle.compare.proofs.compare.Goals.{In_ok-check_compare}
 use Rattle.compare.proofs.compare.Goals as goal
 
@@ -19,10 +20,13 @@ fits c = compare_passed _ _ _ (passes c)
 long : (c : In_ok-check_compare) → length c.args.a.now ≡ length c.args.b.now
 long c = (fits c).long_a ∙ sym (fits c).long_b
 
+pub first_differing-requires : goal.first_differing-requires
+first_differing-requires c = long (goal.at.first_differing-requires c).In_ok-check_compare
+
 pub returns-in_default : goal.returns-in_default
 returns-in_default c =
     let ok = (goal.at.returns-in_default c).In_ok-check_compare in
-    simp (eq-eqb _ _ (passes ok), eq-eqb _ _ (not_found _ _ (long ok) c.in_default.ensures))
+    simp (eq-eqb _ _ (passes ok), eq-eqb _ _ c.in_default.ensures)
 
 pub count_bits-count-requires : goal.count_bits-count-requires
 count_bits-count-requires c =
@@ -33,5 +37,6 @@ pub returns : goal.returns
 returns c =
     let ok = (goal.at.returns c).In_ok-check_compare in
     let p = passes ok in
-    let first = found _ _ (long ok) _ c.in-Some.ensures in
-    simp (eq-eqb _ _ p, ne_eqb _ _ first.1, first.0, c.count_bits-count.ensures ∙ byte_bits _ _ _ p)
+    let (first, inside) = c.in-Some.ensures in
+    let some : differing c.args.a.now c.args.b.now ≡ 0 → ⊥ = λ z. omega (arith, nowhere-first _ _ (long ok) z, first, inside) in
+    simp (eq-eqb _ _ p, ne_eqb _ _ some, first, c.count_bits-count.ensures ∙ byte_bits _ _ _ p)
