@@ -65,7 +65,8 @@ fn bits_apart(x: u8, y: u8) -> u32
     (x ^ y).count_ones()
 }
 
-// The first place at which two lists differ. By a loop that yields it by break, which the user asks for: `position` would do.
+// The first place at which two lists differ. By a loop that yields it by break, the form that docs/DECISIONS.md has
+// for it; `position` would do.
 fn first_differing(a: &[u8], b: &[u8]) -> Option<usize>
     requires { length a.now ≡ length b.now }
     ensures { MatchOption result (differing a.now b.now ≡ 0) (λ first. (first ≡ first_place a.now b.now) × (first < length a.now)) }

@@ -20,7 +20,7 @@ pub fn holds(format: AcmFormat, memory: &[u16]) -> bool
 
 // Whether I entries are an expanded interleaver. One column on an interleaved position is W more, modulo I: so only the first column has to be
 // worked out.
-fn compare(permutation: &Permutation, memory: &[u16]) -> bool
+fn compare(permutation: &Permutation<'_>, memory: &[u16]) -> bool
     requires { length memory.now ≡ M * length permutation.now.alpha.now }
     ensures { result ≡ same memory.now (expanded_from (permuted permutation.now.alpha.now permutation.now.beta.now) 0 (length memory.now)) }
 {
@@ -33,7 +33,7 @@ fn compare(permutation: &Permutation, memory: &[u16]) -> bool
 }
 
 // Whether the entries of the first column are.
-fn compare_first(permutation: &Permutation, column: &[u16]) -> bool
+fn compare_first(permutation: &Permutation<'_>, column: &[u16]) -> bool
     requires { length column.now ≡ length permutation.now.alpha.now }
     ensures { result ≡ same column.now (expanded_from (permuted permutation.now.alpha.now permutation.now.beta.now) 0 (length column.now)) }
 {

@@ -17,7 +17,7 @@ pub fn build(format: AcmFormat, memory: &mut [u16])
 }
 
 // Writes the entries of all positions, a column at a time.
-fn write(permutation: &Permutation, memory: &mut [u16])
+fn write(permutation: &Permutation<'_>, memory: &mut [u16])
     requires { M * length permutation.now.alpha.now ≤ length memory.old }
     ensures { memory.new ≡ sets memory.old 0 (expanded_from (permuted permutation.now.alpha.now permutation.now.beta.now) 0 (M * length permutation.now.alpha.now)) }
 {

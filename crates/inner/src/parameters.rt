@@ -17,7 +17,7 @@ use puncture::{LAID_OUT, PERIOD};
 pub struct Parameters {
     pub format: AcmFormat,
     pub figures: Format,
-    pub permutation: Permutation,
+    pub permutation: Permutation<'static>,
     pub alpha: [u16; WIDEST],
     pub beta: [u8; WIDEST],
     residues: [u16; BANKS],

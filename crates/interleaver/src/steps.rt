@@ -16,17 +16,17 @@ pub const BANKS: usize = 2 * M;
 
 // The interleaver of a size: its vectors α and β, one element a row, and W × bank for each sum of a column and a β.
 #[derive(Clone, Copy)]
-pub struct Permutation {
-    pub alpha: &'static [u16],
-    pub beta: &'static [u8],
+pub struct Permutation<'a> {
+    pub alpha: &'a [u16],
+    pub beta: &'a [u8],
     starts: [u16; BANKS],
     pub ghost ranges: { Vectors alpha.now beta.now },
     pub ghost starts_are: { Multiples (length alpha.now) (M * length alpha.now) starts },
 }
 
-impl Permutation {
+impl<'a> Permutation<'a> {
     // That of two vectors.
-    pub fn over(alpha: &'static [u16], beta: &'static [u8]) -> Permutation
+    pub fn over(alpha: &'a [u16], beta: &'a [u8]) -> Permutation<'a>
         requires { Vectors alpha.now beta.now × (0 < length alpha.now) }
         ensures alpha_value { result.alpha.now ≡ alpha.now }
         ensures beta_value { result.beta.now ≡ beta.now }
@@ -40,7 +40,7 @@ impl Permutation {
     }
 
     // That of a format.
-    pub fn of_format(format: AcmFormat) -> Permutation
+    pub fn of_format(format: AcmFormat) -> Permutation<'a>
         ensures alpha_value { result.alpha.now ≡ (size_of (format_of format.number).w).α }
         ensures beta_value { result.beta.now ≡ (size_of (format_of format.number).w).β }
     {
@@ -65,7 +65,7 @@ impl Permutation {
 
     // The same of the row with these elements of α and β, by equation A-1. Nothing is divided.
     pub fn position_of(&self, column: usize, address: u16, shift: u8) -> InterleavedPosition
-        requires { (column < M) × (shift < M) }
+        requires { (column < M) × ((row : ℕ) × (row < length self.now.alpha.now) × (address ≡ get_or self.now.alpha.now row 0) × (shift ≡ get_or self.now.beta.now row 0)) }
         ensures { (row : ℕ) → row < length self.now.alpha.now → address ≡ get_or self.now.alpha.now row 0 → shift ≡ get_or self.now.beta.now row 0 → result.0 ≡ permuted self.now.alpha.now self.now.beta.now (length self.now.alpha.now * column + row) }
     {
         InterleavedPosition(looked_up(&self.starts, column, address, shift))
@@ -112,7 +112,8 @@ impl Permutation {
     }
 }
 
-// A walk over the positions in order: where it stands, and the row and column of that position as running values.
+// A walk over the positions in order: where it stands, and the row and column of that position as running values. That they are those of the
+// position is asked, as `Walked`, where it matters.
 #[derive(Clone, Copy)]
 pub struct Walk {
     pub position: UpperPosition,

@@ -34,9 +34,9 @@ pub extern "C" fn sccc_encode_shared(
     ensures interleaver { memory.new ≡ shared_memory format block.now (length work.old) (length out.old) memory.old held }
 {
     match sharing::encode_shared(format, block, work, out, memory, held) {
-        Ok(held) => SharedAnswer {
+        Ok(size) => SharedAnswer {
             number: PASSED,
-            held,
+            held: size,
         },
         Err(refusal) => SharedAnswer {
             number: refused(refusal),

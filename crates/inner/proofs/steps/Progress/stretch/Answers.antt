@@ -57,7 +57,7 @@ bounds-parameters-walk c =
 pub position_of-position-requires : goal.position_of-position-requires
 position_of-position-requires c =
     let t = (goal.at.position_of-position-requires c).In-loop-walk in
-    (column t, rw (shift t) (c.args.parameters.now.permutation.ranges.β_range _ (row t)))
+    (column t, (_, row t, address t, shift t))
 
 pub mark_of-mark-requires : goal.mark_of-mark-requires
 mark_of-mark-requires c =
