@@ -81,11 +81,7 @@ module _ (s : Lent) (good : Good s) (c : Call) where
 
   -- no entry is refused
   entries_hold : is_format c.format ≡ true → (if eqb s.held (format_of c.format).i then expands c.format s.memory else true) ≡ true
-  entries_hold h =
-      by_cases
-      (eqb s.held (format_of c.format).i)
-      (λ t. rw (t, good.holds c.format h (eqb-true _ _ t)))
-      (λ n. rw n)
+  entries_hold h = grind arith
 
   number-plain : number s c ≡ plain_number (length s.memory) c
   unfolding shared_number

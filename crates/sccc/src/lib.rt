@@ -76,11 +76,7 @@ pub extern "C" fn sccc_format(format: u64) -> FormatInfo
 fn provisional(format: u64) -> u64
     ensures { result ≡ (provenance_at format).provisional }
 {
-    match interleaver::provenance(format) {
-        Ok(Source::StandIn) => 1,
-        Ok(Source::Published) => 0,
-        Err(_) => 0,
-    }
+    u64::from(interleaver::provenance(format) == Ok(Source::StandIn))
 }
 
 // The number of a check that failed, as wide as in the answers.
