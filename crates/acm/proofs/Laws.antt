@@ -8,14 +8,12 @@ use borrow.Author.Tests.{leb-true, leb-false, le-leb, ltb-true, eqb-true}
 use lib.Dec.{leb, ltb, eqb, lit<}
 use lib.ListN.{length, get_or, get_or-map, get_or-eq_default}
 use Rattle.bits.specs.Checks.{passed, bad_format}
-use Rattle.bits.specs.declared.checks.Refusal.{Refusal}
 use Rattle.bits.proofs.Cases.{by_cases}
-use Rattle.bits.proofs.Refusals.{not_passed}
 use Rattle.bits.proofs.Table.{left-true, right_true, every, every-at, below, below_at}
 use Rattle.acm.specs.declared.table.Format.{Format}
 use Rattle.acm.specs.declared.table.Row.{Row}
 use Rattle.acm.specs.Formats.{M, symbols, piece_length, formats, format_of, none, last_format, last_one_stage, is_format, P, N1, hard_bits, AllSoft, most_k, most_i, most_n, Answer, answer_of, looked_up}
-use Rattle.std.specs.Prelude.{Ok, Err}
+use Rattle.std.specs.Prelude.{Ok}
 use Rattle.acm.specs.Table.{record_of}
 
 pub record Sound (r : Format) : Type 0 where
@@ -193,10 +191,6 @@ found f r e =
   where
     number-clash : passed ≡ bad_format → ⊥
     number-clash q = omega arith
-
-pub not_found : (f : ℕ) (r : Refusal) → answer_of (Err r) ≡ looked_up f → is_format f ≡ false
-not_found f r e =
-    by_cases (is_format f) (λ t. absurd (not_passed r (ap (λ (a : Answer). a.number) (rw t at e)))) (λ n. n)
 
 -- a number that is no format's has the record of zeros
 pub no_record : (f : ℕ) → is_format f ≡ false → format_of f ≡ none

@@ -2,18 +2,16 @@
 // standard's.
 #![tactic(auto)]
 
-use acm::Format;
+use acm::{AcmFormat, Format};
 use interleaver::Source;
 use std::io;
 
 fn main(rt: HostRuntime) -> io::Result<()> {
     println!(rt; "format,m,K,I,W,N")?;
-    for number in 1..=acm::LAST {
-        if let Ok(format) = acm::lookup(number) {
-            print_line(&rt, format)?;
-            // A warning that cannot be written keeps no line back.
-            let _ = warn(&rt, number);
-        }
+    for format in AcmFormat::all() {
+        print_line(&rt, format.record())?;
+        // A warning that cannot be written keeps no line back.
+        let _ = warn(&rt, format.number);
     }
     Ok(())
 }

@@ -44,7 +44,7 @@ impl fmt::Display for Block {
 
 pub(crate) fn run(rt: &impl Print) -> io::Result<()> {
     println!(rt; "format,block,work,codeword,labels")?;
-    for format in (1..=acm::LAST).filter_map(|number| AcmFormat::try_from(number).ok()) {
+    for format in AcmFormat::all() {
         print_row(rt, format, Block::Zeros)?;
         print_row(rt, format, Block::Ones)?;
         print_row(rt, format, Block::SingleOne)?;

@@ -18,7 +18,7 @@ const BLOCKS: u64 = 16;
 
 pub(crate) fn run(rt: &impl Print) -> io::Result<()> {
     println!(rt; "format,pilots,marker,descriptor,labels,frame")?;
-    for format in (1..=acm::LAST).filter_map(|number| AcmFormat::try_from(number).ok()) {
+    for format in AcmFormat::all() {
         print_frames(rt, format)?;
     }
     Ok(())
