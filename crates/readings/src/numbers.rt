@@ -10,7 +10,7 @@ pub(crate) fn trellis(rt: &impl Print, mut row: Row) -> io::Result<()> {
     let bit = row.number();
     print_answer(
         rt,
-        trellis::step(state, bit).map(|step| [step.systematic, step.parity, step.state]),
+        trellis::step(state, bit).map(|step| [step.systematic, step.parity, u8::from(step.state)]),
     )
 }
 

@@ -8,7 +8,8 @@
 ghost use Rattle.std.specs.Prelude.{◌≡◌, length};
 ghost use Rattle.bits.specs.Checks.{check_number};
 ghost use Rattle.acm.specs.Formats.{looked_up};
-ghost use Rattle.trellis.specs.Trellis.{step_answer, stepped};
+ghost use Rattle.trellis.specs.Answers.{step_answer};
+ghost use Rattle.trellis.specs.Trellis.{stepped};
 ghost use Rattle.interleaver.specs.Interleaver.{answer_of as position_answer_of, interleaved_at};
 ghost use Rattle.interleaver.specs.Provenance.{provenance_at};
 ghost use Rattle.encoder.specs.Calls.{encode_number, encode_workspace, encode_output, labels_number, labels_output};
@@ -105,7 +106,7 @@ impl From<Result<Step, Refusal>> for Stepped {
                 number: PASSED,
                 systematic: u64::from(step.systematic),
                 parity: u64::from(step.parity),
-                state: u64::from(step.state),
+                state: u64::from(u8::from(step.state)),
             },
             Err(refusal) => Stepped {
                 number: refused(refusal),

@@ -1,10 +1,12 @@
 // A trellis run from any state.
 ghost use Rattle.std.specs.Prelude.{◌≡◌, length};
-ghost use Rattle.trellis.specs.Run.{run_answer, ran, run_output};
+ghost use Rattle.trellis.specs.Answers.{run_answer};
+ghost use Rattle.trellis.specs.Run.{ran, run_output};
 ghost use Rattle.sccc.specs.Structs.{run_struct};
 
 use crate::{PASSED, refused};
 use bits::Refusal;
+use trellis::State;
 
 // The state 2 * x0 + x1 that a run ends in.
 #[repr(C)]
@@ -14,14 +16,14 @@ pub struct RunAnswer {
     pub state: u64,
 }
 
-impl From<Result<u8, Refusal>> for RunAnswer {
+impl From<Result<State, Refusal>> for RunAnswer {
     ghost from_gives = { λ answer run. run ≡ run_struct (run_answer answer) };
 
-    fn from(answer: Result<u8, Refusal>) -> RunAnswer {
+    fn from(answer: Result<State, Refusal>) -> RunAnswer {
         match answer {
             Ok(state) => RunAnswer {
                 number: PASSED,
-                state: u64::from(state),
+                state: u64::from(u8::from(state)),
             },
             Err(refusal) => RunAnswer {
                 number: refused(refusal),

@@ -1,7 +1,6 @@
 -- A run as request L5 of document 02 asks for it: from the state with the number s, over a list of bits, into an output of so many bytes.
-use Rattle.std.specs.Prelude.{◌&&◌, List, [], ◌∷◌, ◌++◌, ℕ, ◌*◌, eqb, leb, length, drop, if◌then◌else◌, Result, Ok, Err}
-use Rattle.bits.specs.Checks.{Check, ◌or_else◌, first_failed, check_number, passed, bad_element, short_output}
-use Rattle.bits.specs.declared.checks.Refusal.{Refusal}
+use Rattle.std.specs.Prelude.{◌&&◌, List, [], ◌∷◌, ◌++◌, ℕ, ◌*◌, eqb, leb, length, drop, if◌then◌else◌}
+use Rattle.bits.specs.Checks.{Check, ◌or_else◌, first_failed, passed, bad_element, short_output}
 use Rattle.bits.specs.Legal.{all_bits}
 use Rattle.trellis.specs.Trellis.{state_number, state_of, is_state, run, ends}
 
@@ -18,10 +17,6 @@ run_number s bits room = first_failed (run_checks s bits room)
 pub record Ran : Type 0 where
   pub number : ℕ
   pub state : ℕ
-
-abbrev pub run_answer : Result ℕ Refusal → Ran
-run_answer (Ok state) = record { number = passed; state = state }
-run_answer (Err refusal) = record { number = check_number refusal; state = 0 }
 
 unfoldable pub ran : ℕ → List ℕ → ℕ → Ran
 ran s bits room =

@@ -1,9 +1,7 @@
 -- The convolutional code of both trellises (4.2; 6, equations 6-1 to 6-4).
-use Rattle.std.specs.Prelude.{Bool, ◌&&◌, List, [], ◌∷◌, ◌++◌, ℕ, ◌+◌, ◌*◌, ◌/◌, ◌%◌, leb, if◌then◌else◌, Result, Ok, Err}
-use Rattle.bits.specs.Checks.{check_number, passed, bad_element}
-use Rattle.bits.specs.declared.checks.Refusal.{Refusal}
+use Rattle.std.specs.Prelude.{Bool, ◌&&◌, List, [], ◌∷◌, ◌++◌, ℕ, ◌+◌, ◌*◌, ◌/◌, ◌%◌, leb, if◌then◌else◌}
+use Rattle.bits.specs.Checks.{passed, bad_element}
 use Rattle.bits.specs.Sum.{◌⊕◌}
-use Rattle.trellis.specs.declared.state.Step.{Step}
 use Rattle.trellis.specs.declared.state.Termination.{Termination}
 
 -- the state x of equation 6-2, x.0 and x.1 its two bits
@@ -49,10 +47,6 @@ step_refused number = record { number = number; systematic = 0; parity = 0; stat
 
 abbrev pub refused : Stepped
 refused = step_refused bad_element
-
-abbrev pub step_answer : Result Step Refusal → Stepped
-step_answer (Ok s) = record { number = passed; systematic = s.systematic; parity = s.parity; state = s.state }
-step_answer (Err refusal) = step_refused (check_number refusal)
 
 abbrev pub stepped : ℕ → ℕ → Stepped
 stepped s u =

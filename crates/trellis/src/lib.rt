@@ -3,8 +3,9 @@
 
 ghost use Rattle.std.specs.Prelude.{◌≡◌, length, MatchResult};
 ghost use Rattle.bits.specs.Checks.{passed, check_number};
-ghost use Rattle.trellis.specs.Run.{run_number, ran, run_output, run_answer};
-ghost use Rattle.trellis.specs.Trellis.{stepped, step_answer, state_of};
+ghost use Rattle.trellis.specs.Answers.{run_answer, step_answer};
+ghost use Rattle.trellis.specs.Run.{run_number, ran, run_output};
+ghost use Rattle.trellis.specs.Trellis.{stepped, state_of};
 
 mod state;
 pub mod steps;
@@ -12,7 +13,7 @@ pub mod steps;
 use bits::Refusal;
 pub use state::{State, Step, Termination};
 
-// One step from the state 2 * x0 + x1 on a bit.
+// One step from the state with the number 2 * x0 + x1 on a bit.
 // Checks: 3, of the state and of the bit.
 pub fn step(state: u64, bit: u64) -> Result<Step, Refusal>
     ensures { step_answer result ≡ stepped state bit }
@@ -21,24 +22,25 @@ pub fn step(state: u64, bit: u64) -> Result<Step, Refusal>
     if 1 < bit {
         return Err(Refusal::Element);
     }
+    // A number up to 1 loses nothing.
     let u = bit as u8;
     Ok(Step {
         systematic: u,
         parity: from.parity(u),
-        state: u8::from(from.next(u)),
+        state: from.next(u),
     })
 }
 
-// A run from the state 2 * x0 + x1 over bits, not terminated: the state that it ends in.
+// A run from the state with the number 2 * x0 + x1 over bits, not terminated: the state that it ends in.
 // Checks: 3, the state is 0 to 3 and each bit 0 or 1; 5, the output has at least two bytes for each bit.
 // Afterwards the front of out is each bit and its parity in turn, and the other bytes are as they were; on refusal all are.
 #[tactic(auto, unfolding(crate::specs::Run::ran, crate::specs::Run::run_output, crate::specs::Run::run_number))]
-pub fn run(state: u64, bits: &[u8], out: &mut [u8]) -> Result<u8, Refusal>
+pub fn run(state: u64, bits: &[u8], out: &mut [u8]) -> Result<State, Refusal>
     ensures answer { run_answer result ≡ ran state bits.now (length out.old) }
     ensures output { out.new ≡ run_output state bits.now out.old }
 {
     let from = check_run(state, bits, out.len())?;
-    Ok(u8::from(steps::run(from, bits, out)))
+    Ok(steps::run(from, bits, out))
 }
 
 // The checks of run, and the state that it starts in.

@@ -6,6 +6,9 @@ ghost use Rattle.trellis.specs.Trellis.{zero-state, ◌⊕ₛ◌, parity, next, 
 use bits::Refusal;
 use std::marker::Model;
 
+// The number of the last state, 11.
+const LAST: u64 = 3;
+
 // The state x of equation 6-2: its two bits. A contract sees the pair of them.
 #[derive(Clone, Copy, Debug, PartialEq, Eq)]
 pub struct State {
@@ -26,12 +29,12 @@ impl Model for State {
     ghost inverse = { λ x. record { x0 = x.0; x1 = x.1 } };
 }
 
-// The two output bits of a step, and the state 2 * x0 + x1 that follows.
+// The two output bits of a step, and the state that follows.
 #[derive(Clone, Copy, Debug, PartialEq, Eq)]
 pub struct Step {
     pub systematic: u8,
     pub parity: u8,
-    pub state: u8,
+    pub state: State,
 }
 
 // The two terminating steps (document 01: closing): the systematic and the parity bit of each.
@@ -127,12 +130,7 @@ impl TryFrom<u64> for State {
         if LAST < number {
             return Err(Refusal::Element);
         }
-        Ok(State {
-            x0: (number / 2) as u8,
-            x1: (number % 2) as u8,
-        })
+        // A number up to 3 loses nothing.
+        Ok(State::from_low_bits(number as u8))
     }
 }
-
-// The number of the last state, 11.
-const LAST: u64 = 3;

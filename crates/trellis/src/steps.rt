@@ -11,6 +11,7 @@ pub(crate) fn run(from: State, bits: &[u8], out: &mut [u8]) -> State
     ensures out_after { out.new ≡ run_of from bits.now ++ drop (2 * length bits.now) out.old }
 {
     let mut state = from;
+    // By index: of what is written through chunks of out the proof knows the length alone.
     for (i, &u) in bits.iter().enumerate() {
         out[2 * i] = u;
         out[2 * i + 1] = state.parity(u);
@@ -27,6 +28,7 @@ pub fn outer(block: &[u8], work: &mut [u8])
 {
     let (pairs, _) = block.as_chunks::<2>();
     let mut state = State::ZERO;
+    // By index, for the same reason.
     for (i, &[u, v]) in pairs.iter().enumerate() {
         work[3 * i] = u;
         work[3 * i + 1] = state.parity(u);
