@@ -47,10 +47,11 @@ fn warn(rt: &impl Eprint, input: &[u8]) -> io::Result<()> {
     let Ok(Job { format, .. }) = job_line::parse(input) else {
         return Ok(());
     };
-    let Ok(Source::StandIn) = interleaver::provenance(format) else {
+    let Ok(Source::StandIn) = interleaver::provenance(format.number) else {
         return Ok(());
     };
     eprintln!(rt;
-        "warning: format {format}: rows of its interleaver stand in for published ones, so this codeword is not the standard's"
+        "warning: format {}: rows of its interleaver stand in for published ones, so this codeword is not the standard's",
+        format.number
     )
 }

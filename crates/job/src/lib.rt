@@ -1,15 +1,11 @@
 // What the bench prints (document 01, "The bench program").
 #![tactic(auto)]
 
-ghost use Rattle.std.specs.Prelude.{◌≡◌, ◌≤◌, length, MatchResult};
-ghost use Rattle.bits.specs.Checks.{check_number, passed};
+ghost use Rattle.std.specs.Prelude.{◌≡◌, ◌≤◌, length};
+ghost use Rattle.bits.specs.Checks.{check_number};
 ghost use Rattle.ascii.specs.Text.{at_front};
-ghost use Rattle.row.specs.Row.{row_of};
-ghost use Rattle.job_line.specs.Line.{format_in, pattern_in};
-ghost use Rattle.job_line.specs.Job.{job_number};
 ghost use Rattle.job.specs.Output.{longest_output, output as output_of, refusal_text, row_text};
 
-use acm::AcmFormat;
 use bits::Refusal;
 use row::steps::Row;
 
@@ -24,19 +20,10 @@ pub fn output(text: &[u8], out: &mut [u8; LONGEST_OUTPUT]) -> usize
     ensures length { result ≡ length (output_of text.now) }
     ensures printed { out.new ≡ at_front (output_of text.now) out.old }
 {
-    match asked_row(text) {
-        Ok(row) => put_row(row, out),
+    match job_line::parse(text) {
+        Ok(job) => put_row(row::steps::make(job.format, job.pattern), out),
         Err(refusal) => put_refusal(refusal, out),
     }
-}
-
-// The row of the job that a text asks for.
-fn asked_row(text: &[u8]) -> Result<Row, Refusal>
-    ensures { MatchResult result (λ row. (job_number text.now ≡ passed) × (row ≡ row_of (format_in text.now) (pattern_in text.now))) (λ refusal. job_number text.now ≡ check_number refusal) }
-{
-    let job = job_line::parse(text)?;
-    let format = AcmFormat::try_from(job.format)?;
-    Ok(row::steps::make(format, job.pattern))
 }
 
 // The header and a row, to the front of out; answers how long they are.
@@ -46,6 +33,7 @@ fn put_row(row: Row, out: &mut [u8]) -> usize
     ensures out_after { out.new ≡ at_front (row_text row) out.old }
 {
     let at = ascii::steps::put(b"format,K,I,N,ones\n", out, 0);
+    // std has no From<usize> for u64.
     let numbers = [
         row.format,
         row.k as u64,

@@ -6,9 +6,9 @@ use Prim.Native.Nat.{ℕ, ◌<◌}
 use native.Mathlib.Omega.{arith}
 use borrow.Author.Tests.{ltb-true, eqb-true, eqb-false, eq-eqb, ne_eqb}
 use lib.Dec.{eqb, lit<}
-use Rattle.std.specs.Prelude.{Option, Some, None, Result, Err}
+use Rattle.std.specs.Prelude.{Option, Some, None, Result, Ok, Err, IfOk}
 use Rattle.std.specs.Option.{ok_or}
-use Rattle.bits.specs.Checks.{◌or_else◌, check_number, passed, bad_line}
+use Rattle.bits.specs.Checks.{◌or_else◌, check_number, number_of, passed, bad_line}
 use Rattle.bits.specs.declared.checks.Refusal.{Refusal}
 use Rattle.bits.specs.declared.checks.Refusal.TheVariants as refusal
 use Rattle.bits.proofs.Cases.{by_cases}
@@ -17,8 +17,9 @@ use Rattle.bits.proofs.Refusals.{not_passed}
 use Rattle.acm.specs.Formats.{is_format}
 use Rattle.acm.proofs.Laws.{format-low}
 use Rattle.job_line.specs.declared.Job.{Job}
+use Rattle.job_line.specs.declared.line.Numbers.{Numbers}
 use Rattle.job_line.specs.Line.{format_in, pattern_in, is_line, line_of}
-use Rattle.job_line.specs.Job.{patterns, numbers_number, job_checks, job_number, Answer, accepted, refused, asked}
+use Rattle.job_line.specs.Job.{patterns, numbers_number, job_checks, job_number, Answer, accepted, refused, answer_of, asked}
 
 pub record JobPassed (text : List ℕ) : Type 0 where
   pub line : is_line text ≡ true
@@ -40,39 +41,39 @@ malformed-number text e =
     (λ t. let e' : None ≡ Some (record { format = format_in text; pattern = pattern_in text }) = rw t at e in cc)
     (λ f. rw f)
 
-record Read (text : List ℕ) (job : Job) : Type 0 where
-  format : job.format ≡ format_in text
-  pattern : job.pattern ≡ pattern_in text
-  number : job_number text ≡ numbers_number job.format job.pattern
+record Read (text : List ℕ) (read : Numbers) : Type 0 where
+  format : read.format ≡ format_in text
+  pattern : read.pattern ≡ pattern_in text
+  number : job_number text ≡ numbers_number read.format read.pattern
 
-numbers-read : (text : List ℕ) (job : Job) → Some job ≡ line_of text → Read text job
+numbers-read : (text : List ℕ) (read : Numbers) → Some read ≡ line_of text → Read text read
 unfolding job_number numbers_number
-numbers-read text job e =
+numbers-read text read e =
     by_cases (is_line text)
     (λ t.
-    let e' : Some job ≡ Some (record { format = format_in text; pattern = pattern_in text }) = rw t at e in
-    let ef : job.format ≡ format_in text = cc in
-    let ep : job.pattern ≡ pattern_in text = cc in
+    let e' : Some read ≡ Some (record { format = format_in text; pattern = pattern_in text }) = rw t at e in
+    let ef : read.format ≡ format_in text = cc in
+    let ep : read.pattern ≡ pattern_in text = cc in
     record { format = ef; pattern = ep; number = rw (t, ef, ep) })
-    (λ n. let e' : Some job ≡ None = rw n at e in cc)
+    (λ n. let e' : Some read ≡ None = rw n at e in cc)
 
 -- the exits of parse
-pub line_refused : (text : List ℕ) (read : Option Job) (r : Refusal) → read ≡ line_of text → read ≡ None → Err r ≡ ok_or read refusal.Line → refused (check_number r) ≡ asked text
+pub line_refused : (text : List ℕ) (read : Option Numbers) (r : Refusal) → read ≡ line_of text → read ≡ None → Err r ≡ ok_or read refusal.Line → refused (check_number r) ≡ asked text
 line_refused text read r e none refuses =
-    let e' : ◌≡◌ {A = Result Job Refusal} (Err r) (Err refusal.Line) = rw none at refuses in
+    let e' : ◌≡◌ {A = Result Numbers Refusal} (Err r) (Err refusal.Line) = rw none at refuses in
     let is : r ≡ refusal.Line = cc in
     rw (is, malformed-number text (sym none ∙ e)) refl
 
-module _ (text : List ℕ) (job : Job) (e : Some job ≡ line_of text) where
-  pub numbers-refused : (r : Refusal) → check_number r ≡ numbers_number job.format job.pattern → refused (check_number r) ≡ asked text
-  numbers-refused r is =
-      let number : job_number text ≡ check_number r = (numbers-read text job e).number ∙ sym is in
-      rw (number, ne_eqb (check_number r) passed (not_passed r))
-
-  pub numbers-accepted : passed ≡ numbers_number job.format job.pattern → accepted job.format job.pattern ≡ asked text
-  numbers-accepted pass =
-      let read = numbers-read text job e in
-      rw (eq-eqb (job_number text) passed (read.number ∙ sym pass)) (ap₂ accepted read.format read.pattern)
+pub line_accepted : (text : List ℕ) (read : Numbers) → Some read ≡ line_of text → (result : Result Job Refusal)
+    → number_of result ≡ numbers_number read.format read.pattern
+    → IfOk result (λ job. (job.format.number ≡ read.format) × (job.pattern ≡ read.pattern))
+    → answer_of result ≡ asked text
+line_accepted text read e (Ok job) pass (f, p) =
+    let r = numbers-read text read e in
+    rw (eq-eqb (job_number text) passed (r.number ∙ sym pass)) (ap₂ accepted (f ∙ r.format) (p ∙ r.pattern))
+line_accepted text read e (Err r) is known =
+    let number : job_number text ≡ check_number r = (numbers-read text read e).number ∙ sym is in
+    rw (number, ne_eqb (check_number r) passed (not_passed r))
 
 -- what an answer says
 pub run-read : (text : List ℕ) (f p : ℕ) → accepted f p ≡ asked text → (job_number text ≡ passed) × (f ≡ format_in text) × (p ≡ pattern_in text)

@@ -39,7 +39,7 @@ abbrev pub refused : ℕ → Answer
 refused number = record { number = number; format = 0; pattern = 0 }
 
 abbrev pub answer_of : Result Job Refusal → Answer
-answer_of (Ok job) = accepted job.format job.pattern
+answer_of (Ok job) = accepted job.format.number job.pattern
 answer_of (Err refusal) = refused (check_number refusal)
 
 abbrev pub asked : List ℕ → Answer

@@ -3,7 +3,7 @@ use Rattle.std.specs.Prelude.{◌≡◌, Bool, true, ◌&&◌, List, [], ◌∷�
 use Rattle.bits.specs.Digits.{value_from}
 use Rattle.bits.specs.Place.{place}
 use Rattle.bits.specs.Same.{same}
-use Rattle.job_line.specs.declared.Job.{Job}
+use Rattle.job_line.specs.declared.line.Numbers.{Numbers}
 use Rattle.ascii.specs.Text.{comma, line_feed, zero_digit, nine_digit, decimal, line}
 
 -- a field has at most so many digits, and its number is below this one
@@ -65,5 +65,5 @@ is_line text =
     ltb (format_in text) field_limit && ltb (pattern_in text) field_limit
     && same text (line (format_in text ∷ pattern_in text ∷ []))
 
-abbrev pub line_of : List ℕ → Option Job
+abbrev pub line_of : List ℕ → Option Numbers
 line_of text = if is_line text then Some (record { format = format_in text; pattern = pattern_in text }) else None

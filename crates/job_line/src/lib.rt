@@ -1,12 +1,13 @@
 // The job line of the bench (document 01, "The bench program").
 #![tactic(auto)]
 
-ghost use Rattle.std.specs.Prelude.{◌≡◌};
+ghost use Rattle.std.specs.Prelude.{◌≡◌, IfOk};
 ghost use Rattle.bits.specs.Checks.{number_of};
 ghost use Rattle.job_line.specs.Job.{answer_of, asked, numbers_number};
 
 use acm::AcmFormat;
 use bits::Refusal;
+use line::Numbers;
 
 mod line;
 
@@ -16,10 +17,10 @@ pub const LONGEST: usize = 8;
 // The last of the patterns 0, 1 and 2.
 const LAST_PATTERN: u64 = 2;
 
-// What a job line asks for.
+// What a job line asks for. The pattern is a number, since row::make takes any.
 #[derive(Clone, Copy, Debug, PartialEq, Eq)]
 pub struct Job {
-    pub format: u64,
+    pub format: AcmFormat,
     pub pattern: u64,
 }
 
@@ -28,19 +29,20 @@ pub struct Job {
 pub fn parse(text: &[u8]) -> Result<Job, Refusal>
     ensures { answer_of result ≡ asked text.now }
 {
-    let job = line::read(text).ok_or(Refusal::Line)?;
-    check_numbers(job)?;
-    Ok(job)
+    let numbers = line::read(text).ok_or(Refusal::Line)?;
+    check_numbers(numbers)
 }
 
-// The checks of a line's two numbers.
+// The job of a line's two numbers, if the checks of both hold.
 #[tactic(auto, unfolding(crate::specs::Job::numbers_number))]
-fn check_numbers(job: Job) -> Result<(), Refusal>
-    ensures { number_of result ≡ numbers_number job.format job.pattern }
+fn check_numbers(numbers: Numbers) -> Result<Job, Refusal>
+    ensures number { number_of result ≡ numbers_number numbers.format numbers.pattern }
+    ensures known { IfOk result (λ job. (job.format.number ≡ numbers.format) × (job.pattern ≡ numbers.pattern)) }
 {
-    AcmFormat::try_from(job.format)?;
-    if LAST_PATTERN < job.pattern {
+    let format = AcmFormat::try_from(numbers.format)?;
+    let pattern = numbers.pattern;
+    if LAST_PATTERN < pattern {
         return Err(Refusal::Pattern);
     }
-    Ok(())
+    Ok(Job { format, pattern })
 }

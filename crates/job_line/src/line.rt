@@ -2,14 +2,20 @@
 ghost use Rattle.std.specs.Prelude.{◌≡◌, true, ◌≤◌, ◌==◌, length, position};
 ghost use Rattle.job_line.specs.Line.{value as value_of, all_digits, field_digits, field_of, line_of};
 
-use crate::Job;
 use ascii::steps::{COMMA, LINE_FEED, ZERO};
 
 // Most digits of a field.
 const FIELD_DIGITS: usize = 3;
 
 // The two numbers of a line, which need not be those of a job that there is.
-pub(crate) fn read(text: &[u8]) -> Option<Job>
+#[derive(Clone, Copy, Debug, PartialEq, Eq)]
+pub struct Numbers {
+    pub format: u64,
+    pub pattern: u64,
+}
+
+// The numbers of a text, if it is a line.
+pub(crate) fn read(text: &[u8]) -> Option<Numbers>
     ensures { result ≡ line_of text.now }
 {
     let comma = place(text, COMMA)?;
@@ -20,7 +26,7 @@ pub(crate) fn read(text: &[u8]) -> Option<Job>
     }
     let format = read_field(&text[..comma])?;
     let pattern = read_field(&rest[..feed])?;
-    Some(Job { format, pattern })
+    Some(Numbers { format, pattern })
 }
 
 // The number of a field: 1 to 3 digits without a leading zero.
