@@ -5,6 +5,7 @@ use mathlib.Core.List.{List, [], ◌∷◌, ◌++◌, map}
 use Prim.Native.Nat.{ℕ, zero, suc, ◌+◌, ◌-◌, ◌/◌, ◌%◌, ◌≤◌}
 use native.Mathlib.Omega.{arith}
 use borrow.Author.Tests.{leb-true}
+use Rattle.std.specs.List.{fold, range_with_len}
 use lib.Dec.{leb}
 use lib.ListN.{length, take, drop, replicate, length-replicate, length-drop, take-append-drop}
 use lib.Seq.{length-take-le, take-add}
@@ -17,6 +18,11 @@ use Rattle.trellis.proofs.Linear.{ends-sum}
 use Rattle.trellis.proofs.Runs.{ends-append, ends-bits, end_back}
 use Rattle.cuts.specs.Cuts.{between, segments_from, stops, end_state, end_states, start_states, rises_from, is_inside}
 use Rattle.cuts.specs.Propagation.{propagated, following, worked_from, worked_out}
+
+-- steps without input, as a fold over their numbers
+pub propagated_folds : (n from : ℕ) (x : State) → fold (λ (x : State) (k : ℕ). next x 0) x (range_with_len from n) ≡ propagated n x
+propagated_folds zero from x = refl
+propagated_folds (suc n) from x = propagated_folds n (from + 1) (next x 0)
 
 -- steps without input are steps on zeros
 propagated-zeros : (n : ℕ) (x : State) → propagated n x ≡ ends x (replicate n 0)

@@ -1,13 +1,12 @@
 -- The two passes over the inner trellis: a segment's bits as they are read, and the second pass at a segment's start, where it is the plain run.
 use mathlib.Core.Path.{◌≡◌, refl, sym, ap, ◌∙◌}
 use mathlib.Core.List.{List, ◌++◌}
-use Prim.Native.Nat.{ℕ, ◌-◌, ◌/◌, ◌%◌, ◌≤◌}
+use Prim.Native.Nat.{ℕ, ◌-◌, ◌≤◌}
 use native.Mathlib.Omega.{arith}
 use lib.ListN.{length, take}
 use lib.Seq.{take_at, drop_at}
 use Rattle.acm.specs.Formats.{format_of}
 use Rattle.trellis.specs.Trellis.{State, zero-state, ends}
-use Rattle.trellis.proofs.Runs.{ends-bits}
 use Rattle.coder.specs.Coder.{state_in}
 use Rattle.interleaver.specs.Interleaver.{π}
 use Rattle.inner.specs.Left.{starting, reads}
@@ -16,7 +15,7 @@ use Rattle.inner.specs.Registers.{read_from, interleaved}
 use Rattle.inner.specs.declared.parameters.Parameters.{Parameters}
 use Rattle.inner.specs.declared.steps.Progress.{Progress}
 use Rattle.inner.proofs.Reading.{read_length, reads_all, reads-split}
-use Rattle.cuts.specs.Cuts.{between, end_state}
+use Rattle.cuts.specs.Cuts.{between}
 use Rattle.cuts.proofs.Propagations.{ends-between}
 use Rattle.inner_segments.specs.Passes.{restarted}
 
@@ -36,15 +35,6 @@ pub restarted-is : (at : Progress) (x : State) → x ≡ state_in at.coder → r
 restarted-is at x e =
     let c = at.coder in
     ap (λ (x : State). (record { walk = at.walk; coder = record { state = x; upper = c.upper; lower = c.lower; counter = c.counter } })) e
-
--- the state that a run from 00 ends in, found again from the two lowest bits of its number
-pub end_found : (bits : List ℕ) → (let s = end_state bits in (s / 2 % 2, s % 2) ≡ ends zero-state bits)
-end_found bits =
-    let x = ends zero-state bits in
-    let two_bits = ends-bits zero-state bits (omega arith) (omega arith) in
-    let first : end_state bits / 2 % 2 ≡ x.0 = omega (arith, two_bits.0, two_bits.1) in
-    let second : end_state bits % 2 ≡ x.1 = omega (arith, two_bits.1) in
-    rw (first, second)
 
 -- the second pass where a segment begins: it has left to store what the plain run has, and is in that run's state
 pub record Along (p : Parameters) (work out₀ : List ℕ) (at₀ : Progress) (out : List ℕ) (at : Progress) : Type 0 where

@@ -13,6 +13,7 @@ ghost use Rattle.inner_segments.specs.Passes.{restarted};
 
 use acm::AcmFormat;
 use coder::steps::Coder;
+use cuts::steps::Stops;
 use cuts::{SEGMENTS, States};
 use inner::Parameters;
 use inner::steps::Progress;
@@ -42,12 +43,11 @@ fn first(parameters: &Parameters, work: &[u8], cuts: &[u16]) -> [u8; SEGMENTS]
 {
     let mut ended = [0; SEGMENTS];
     let mut walk = Walk::start();
-    for j in 0..cuts.len() + 1 {
+    for (j, to) in Stops::of(cuts, parameters.figures.i).enumerate() {
         let from = Run {
             walk,
             state: State::ZERO,
         };
-        let to = cuts::steps::stop(cuts, j, parameters.figures.i);
         let end = from.advance(parameters, work, to);
         ended[j] = u8::from(end.state);
         walk = end.walk;
@@ -82,21 +82,14 @@ impl Run {
 
 // The second pass: every segment from its own start. The registers' places and the counter of rate matching go on from segment to segment,
 // the trellis' state does not.
-fn second(
-    parameters: &Parameters,
-    work: &[u8],
-    out: &mut [u8],
-    cuts: &[u16],
-    started: &[u8; SEGMENTS],
-)
+fn second(parameters: &Parameters, work: &[u8], out: &mut [u8], cuts: &[u16], started: &[u8])
     requires lent { Lent parameters.now.format.number work.now out.old }
     requires cuts { Cuts (format_of parameters.now.format.number).i cuts.now × (started.now ≡ padded (start_states cuts.now (interleaved (format_of parameters.now.format.number) (π parameters.now.format.number) work.now))) }
     ensures { out.new ≡ from_outer parameters.now.format.number work.now ++ drop (N1 (format_of parameters.now.format.number)) out.old }
 {
     let mut at = Progress::start(parameters.figures);
-    for j in 0..cuts.len() + 1 {
-        let to = cuts::steps::stop(cuts, j, parameters.figures.i);
-        let from = restart(at, State::from_low_bits(started[j]));
+    for (to, &start) in Stops::of(cuts, parameters.figures.i).zip(started) {
+        let from = restart(at, State::from_low_bits(start));
         at = from.advance(parameters, work, out, to);
     }
     at.coder.finish(out);

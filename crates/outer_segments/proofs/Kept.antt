@@ -4,6 +4,7 @@ use mathlib.Core.List.{List, [], ◌∷◌, ◌++◌}
 use Prim.Native.Nat.{ℕ, suc, ◌+◌, ◌%◌, ◌≤◌}
 use native.Mathlib.Omega.{arith}
 use borrow.Author.Tests.{eq-eqb, ne_eqb, eqb-true, eqb-false}
+use Rattle.std.specs.List.{fold}
 use lib.Dec.{eqb}
 use lib.ListN.{length, take, drop}
 use lib.Seq.{sets, length-sets, length-take-le, take-length}
@@ -30,6 +31,11 @@ kept_append i x (u ∷ a) b =
     let e : i + 1 + length a ≡ i + suc (length a) = omega arith in
     let step = kept_append (i + 1) (next x u) a b ∙ ap (λ (k : ℕ). kept_from (i + 1) (next x u) a ++ kept_from k (ends (next x u) a) b) e in
     by_cases (eqb (i % 2) 0) (λ t. rw t (ap (λ (l : List ℕ). u ∷ parity x u ∷ l) step)) (λ f. rw f (ap (λ (l : List ℕ). u ∷ l) step))
+
+-- the state that a run ends in, as a fold
+pub ends_folds : (x : State) (bits : List ℕ) → fold (λ (x : State) (u : ℕ). next x u) x bits ≡ ends x bits
+ends_folds x [] = refl
+ends_folds x (u ∷ us) = ends_folds (next x u) us
 
 -- from an even step on, over pairs of steps, they are those that the whole run keeps
 kept-pairs : (i : ℕ) (x : State) (bits : List ℕ) → i % 2 ≡ 0 → length bits % 2 ≡ 0 → kept_from i x bits ≡ kept bits (parities x bits)

@@ -6,6 +6,7 @@ ghost use Rattle.trellis.specs.Trellis.{zero-state, ends, termination, outer};
 ghost use Rattle.cuts.specs.Cuts.{Cuts, end_states, start_states, padded, states_of};
 ghost use Rattle.outer_segments.specs.Kept.{kept_from, kept_before};
 
+use cuts::steps::Stops;
 use cuts::{SEGMENTS, States};
 use trellis::State;
 
@@ -31,8 +32,7 @@ fn first(block: &[u8], cuts: &[u16]) -> [u8; SEGMENTS]
 {
     let mut ended = [0; SEGMENTS];
     let mut from = 0;
-    for j in 0..=cuts.len() {
-        let to = cuts::steps::stop(cuts, j, block.len());
+    for (j, to) in Stops::of(cuts, block.len()).enumerate() {
         ended[j] = u8::from(end(&block[from..to]));
         from = to;
     }
@@ -43,11 +43,7 @@ fn first(block: &[u8], cuts: &[u16]) -> [u8; SEGMENTS]
 fn end(bits: &[u8]) -> State
     ensures { result ≡ ends zero-state bits.now }
 {
-    let mut state = State::ZERO;
-    for &bit in bits {
-        state = state.next(bit);
-    }
-    state
+    bits.iter().fold(State::ZERO, |state, &bit| state.next(bit))
 }
 
 // The second pass: every segment from its own start, and no state goes over a cut. Answers the state in which the last one ends.
@@ -59,10 +55,8 @@ fn second(block: &[u8], cuts: &[u16], started: &[u8], work: &mut [u8]) -> State
 {
     let mut last = State::ZERO;
     let mut from = 0;
-    for j in 0..=cuts.len() {
-        let to = cuts::steps::stop(cuts, j, block.len());
-        let start = State::from_low_bits(started[j]);
-        last = segment(start, &block[from..to], from, work);
+    for (to, &start) in Stops::of(cuts, block.len()).zip(started) {
+        last = segment(State::from_low_bits(start), &block[from..to], from, work);
         from = to;
     }
     last
