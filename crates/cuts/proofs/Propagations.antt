@@ -4,9 +4,7 @@ use mathlib.Core.Bool.{true}
 use mathlib.Core.List.{List, [], ◌∷◌, ◌++◌, map}
 use Prim.Native.Nat.{ℕ, zero, suc, ◌+◌, ◌-◌, ◌/◌, ◌%◌, ◌≤◌}
 use native.Mathlib.Omega.{arith}
-use borrow.Author.Tests.{leb-true}
 use Rattle.std.specs.List.{fold, range_with_len}
-use lib.Dec.{leb}
 use lib.ListN.{length, take, drop, replicate, length-replicate, length-drop, take-append-drop}
 use lib.Seq.{length-take-le, take-add}
 use Rattle.bits.specs.Legal.{all_at_most, all_bits}
@@ -18,6 +16,7 @@ use Rattle.trellis.proofs.Linear.{ends-sum}
 use Rattle.trellis.proofs.Runs.{ends-append, ends-bits, end_back}
 use Rattle.cuts.specs.Cuts.{between, segments_from, stops, end_state, end_states, start_states, rises_from, is_inside}
 use Rattle.cuts.specs.Propagation.{propagated, following, worked_from, worked_out}
+use Rattle.cuts.proofs.Segments.{rising}
 
 -- steps without input, as a fold over their numbers
 pub propagated_folds : (n from : ℕ) (x : State) → fold (λ (x : State) (k : ℕ). next x 0) x (range_with_len from n) ≡ propagated n x
@@ -98,11 +97,11 @@ worked_from_lem : (bits : List ℕ) → all_bits bits ≡ true → (from : ℕ) 
     ≡ map (λ c. end_state (take c bits)) cuts
 worked_from_lem bits legal from [] up low = refl
 worked_from_lem bits legal from (c ∷ cs) up low =
-    let h = leb-true from c (left-true (leb from c) (rises_from c cs) up) in
-    let step = following-is bits from c legal h (legal_head (length bits) c cs low) in
+    let (here, later) = rising from refl up in
+    let step = following-is bits from c legal here (legal_head (length bits) c cs low) in
     ap (λ (x : State). state_number x ∷ worked_from x c cs (map end_state (segments_from c (stops (length bits) cs) bits))) step
     ∙ ap (λ (l : List ℕ). end_state (take c bits) ∷ l)
-    (worked_from_lem bits legal c cs (right_true (leb from c) (rises_from c cs) up) (legal-tail (length bits) c cs low))
+    (worked_from_lem bits legal c cs later (legal-tail (length bits) c cs low))
 
 pub worked_out_lem : (bits cuts : List ℕ) → all_bits bits ≡ true → is_inside (length bits) cuts ≡ true → worked_out cuts (end_states cuts bits) ≡ start_states cuts bits
 worked_out_lem bits cuts legal inside =

@@ -1,18 +1,17 @@
 -- What the number 0 says of a call's arguments, and what the inner trellis reads of the workspace then.
 use mathlib.Core.Path.{◌≡◌, refl, sym, ◌∙◌}
-use mathlib.Core.Bool.{true, false}
+use mathlib.Core.Bool.{true}
 use mathlib.Core.List.{List, ◌++◌}
 use Prim.Native.Nat.{ℕ}
-use borrow.Author.Tests.{eqb-true, eqb-false}
+use borrow.Author.Tests.{eqb-true}
 use lib.Dec.{eqb, lit<}
 use lib.ListN.{length}
-use Rattle.bits.specs.Checks.{◌or_else◌, first_failed, passed, many_cuts, bad_cut}
+use Rattle.bits.specs.Checks.{◌or_else◌, first_failed, passed}
 use Rattle.bits.specs.Legal.{all_bits}
 use Rattle.bits.proofs.Cases.{by_cases}
-use Rattle.bits.proofs.Passed.{passes as passes-at, when_passed, when_refused, passed-before}
+use Rattle.bits.proofs.Passed.{passes as passes-at, when_passed, passed-before}
 use Rattle.bits.proofs.Table.{left-true, right_true}
 use Rattle.acm.specs.Formats.{is_format, format_of}
-use Rattle.acm.specs.declared.table.Format.{Format}
 use Rattle.trellis.specs.Trellis.{outer}
 use Rattle.trellis.proofs.Outer.{outer-bits}
 use Rattle.interleaver.specs.Interleaver.{π}
@@ -24,34 +23,6 @@ use Rattle.cuts.specs.Cuts.{is_few, is_inside, Cuts}
 use Rattle.segments.specs.Calls.{cuts_checks, segments_number, segments_workspace, segments_output}
 
 module _ (f : ℕ) (block : List ℕ) (work_room out_room : ℕ) (outer_list inner_list : List ℕ) where
-  -- encode's checks decide where one of them fails, and else those of the cuts
-  pub encode_first : (encode_number f block work_room out_room ≡ passed → ⊥) → encode_number f block work_room out_room ≡ segments_number f block work_room out_room outer_list inner_list
-  unfolding segments_number
-  encode_first e = when_refused (encode_number f block work_room out_room) (first_failed (cuts_checks f outer_list inner_list)) (encode_number f block work_room out_room) e
-
-  cuts_later : encode_number f block work_room out_room ≡ passed → first_failed (cuts_checks f outer_list inner_list) ≡ segments_number f block work_room out_room outer_list inner_list
-  unfolding segments_number
-  cuts_later e = when_passed (encode_number f block work_room out_room) (first_failed (cuts_checks f outer_list inner_list)) (encode_number f block work_room out_room) e
-
-  -- the exits behind encode's checks
-  module _ (encodes : encode_number f block work_room out_room ≡ passed) where
-    pub many_outer : is_few outer_list ≡ false → many_cuts ≡ segments_number f block work_room out_room outer_list inner_list
-    many_outer o = rw (← cuts_later encodes, o)
-
-    module _ (o : is_few outer_list ≡ true) where
-      pub many_inner : is_few inner_list ≡ false → many_cuts ≡ segments_number f block work_room out_room outer_list inner_list
-      many_inner i = rw (← cuts_later encodes, o, i)
-
-      module _ (i : is_few inner_list ≡ true) {r : Format} (is : r ≡ format_of f) where
-        pub bad_outer : is_inside r.k1 outer_list ≡ false → bad_cut ≡ segments_number f block work_room out_room outer_list inner_list
-        bad_outer p = rw (← cuts_later encodes, o, i, ← is, p)
-
-        pub bad_inner : is_inside r.k1 outer_list ≡ true → is_inside r.i inner_list ≡ false → bad_cut ≡ segments_number f block work_room out_room outer_list inner_list
-        bad_inner p q = rw (← cuts_later encodes, o, i, ← is, p, q)
-
-        pub all_sound : is_inside r.k1 outer_list ≡ true → is_inside r.i inner_list ≡ true → passed ≡ segments_number f block work_room out_room outer_list inner_list
-        all_sound p q = rw (← cuts_later encodes, o, i, ← is, p, q)
-
   pub record SegmentsPassed : Type 0 where
     pub passes : segments_number f block work_room out_room outer_list inner_list ≡ passed
     pub encodes : encode_number f block work_room out_room ≡ passed
@@ -62,7 +33,9 @@ module _ (f : ℕ) (block : List ℕ) (work_room out_room : ℕ) (outer_list inn
   unfolding segments_number
   segments-passed e =
       let encodes = passed-before (encode_number f block work_room out_room) (first_failed (cuts_checks f outer_list inner_list)) e in
-      let part = passes-at (cuts_checks f outer_list inner_list) (true or_else passed) refl (cuts_later encodes ∙ e) in
+      let n = encode_number f block work_room out_room in
+      let cuts_pass = when_passed n (first_failed (cuts_checks f outer_list inner_list)) n encodes ∙ e in
+      let part = passes-at (cuts_checks f outer_list inner_list) (true or_else passed) refl cuts_pass in
       let few = part 0 (lit< tt) in
       let inside = part 1 (lit< tt) in
       record {
@@ -86,12 +59,10 @@ segments_passed-at {f = f} {block} {work_room} {out_room} {outer_list} {inner_li
 -- with cuts that pass their checks the call is encode
 module _ (f : ℕ) (block : List ℕ) (outer_list inner_list : List ℕ) (o : Cuts (format_of f).k1 outer_list) (i : Cuts (format_of f).i inner_list) where
   pub plain_number_lem : (work_room out_room : ℕ) → segments_number f block work_room out_room outer_list inner_list ≡ encode_number f block work_room out_room
+  unfolding segments_number
   plain_number_lem work_room out_room =
       let n = encode_number f block work_room out_room in
-      by_cases
-      (eqb n passed)
-      (λ t. let e = eqb-true n passed t in sym (e ∙ all_sound f block work_room out_room outer_list inner_list e o.few i.few refl o.inside i.inside))
-      (λ h. sym (encode_first f block work_room out_room outer_list inner_list (eqb-false n passed h)))
+      by_cases (eqb n passed) (λ t. rw (t, o.few, i.few, o.inside, i.inside) (sym (eqb-true n passed t))) (λ h. rw h)
 
   pub plain-workspace : (work out : List ℕ) → segments_workspace f block work out outer_list inner_list ≡ encode_workspace f block work out
   unfolding segments_workspace encode_workspace

@@ -45,6 +45,7 @@ pub fn encode_segments(
 }
 
 // The format of a call that encode_segments takes, or the first of its checks that fails.
+#[tactic(auto, using(std::proofs::lemmas::Bool::Decides::nat_tests), unfolding(crate::specs::Calls::segments_number))]
 fn check_segments(
     format: u64,
     block: &[u8],
@@ -57,17 +58,11 @@ fn check_segments(
     ensures known { IfOk result (λ f. f.number ≡ format) }
 {
     let format = encoder::check_encode(format, block, work, out)?;
-    if !cuts::few(outer) {
-        return Err(Refusal::CutCount);
-    }
-    if !cuts::few(inner) {
+    if !cuts::few(outer) || !cuts::few(inner) {
         return Err(Refusal::CutCount);
     }
     let f = format.record();
-    if !cuts::inside(f.k1, outer) {
-        return Err(Refusal::CutPlace);
-    }
-    if !cuts::inside(f.i, inner) {
+    if !cuts::inside(f.k1, outer) || !cuts::inside(f.i, inner) {
         return Err(Refusal::CutPlace);
     }
     Ok(format)

@@ -5,12 +5,12 @@ use borrow.Author.Tests.{leb-true}
 use Rattle.bits.proofs.Fill.{left_as, left_store}
 use Rattle.cuts.specs.Propagation.{following}
 use Rattle.cuts.proofs.Propagations.{low_bits}
-use Rattle.cuts.proofs.Segments.{rising_up, rising_on}
+use Rattle.cuts.proofs.Segments.{rising}
 use Rattle.cuts.proofs.Sixteen.{worked_done, worked_fits, padded-is}
 use Rattle.cuts.proofs.steps.starts.Goals as goal
 
 pub overflow_sub-cut : goal.overflow_sub-cut
-overflow_sub-cut c = rising_up c.loop-j.invariant.rising c.in-Some.ensures.steps.0.0
+overflow_sub-cut c = (rising c.loop-j.from c.in-Some.ensures.steps.0.0 c.loop-j.invariant.rises).0
 
 pub loop-j-preserved : goal.loop-j-preserved
 loop-j-preserved c =
@@ -19,7 +19,7 @@ loop-j-preserved c =
     let next : c.sum-state.result ≡ following c.loop-j.state (c.in-Some.field-0-1-0.now - c.loop-j.from) c.in-Some.field-0-1-1.now =
     rw (c.sum-state.ensures, c.propagate.ensures, c.from_low_bits.ensures) (low_bits _ _) in
     record {
-      rising = rising_on i.rising cuts;
+      rises = (rising c.loop-j.from cuts i.rises).1;
       few = omega (arith, on, ap length cuts, i.few);
       left = rw (on, here, c.from.ensures, next) (left_store (left_as (rw (cuts, ends)) i.left));
     }
