@@ -42,7 +42,7 @@ inside_any [] i d e h = absurd (omega arith)
 inside_any (x ∷ l) zero d e h = refl
 inside_any (x ∷ l) (suc i) d e h = inside_any l i d e (omega arith)
 
-differ : (a b : List ℕ) → (a ≡ b → ⊥) → same a b ≡ false
+pub differ : (a b : List ℕ) → (a ≡ b → ⊥) → same a b ≡ false
 differ a b n = by_cases (same a b) (λ t. absurd (n (same-equal a b t))) (λ f. f)
 
 module _ (α β : List ℕ) (v : Vectors α β) where

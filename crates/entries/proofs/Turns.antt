@@ -1,44 +1,44 @@
--- The loops that compare: what is left at an entry.
-use mathlib.Core.Path.{◌≡◌}
+-- The chains that compare: an entry with what it should be, and so on with the rest.
+use mathlib.Core.Path.{◌≡◌, sym, ap, ◌∙◌}
 use mathlib.Core.Bool.{Bool, true, false, ◌&&◌}
-use mathlib.Core.List.{List, map}
-use Prim.Native.Nat.{ℕ, ◌+◌, ◌-◌, ◌≤◌, ◌<◌}
+use mathlib.Core.List.{List, [], ◌∷◌, map}
+use Prim.Native.Nat.{ℕ, ◌<◌}
 use native.Mathlib.Omega.{arith}
-use borrow.Author.Tests.{eq-eqb, ne_eqb}
 use lib.Dec.{eqb}
-use lib.ListN.{length, get_or, drop, drop_of_length-le}
+use lib.ListN.{length, get_or}
+use lib.Seq.{ext_get_or}
+use Rattle.std.specs.Bool.{MatchBool}
+use Rattle.std.specs.List.{zip, fold, enumerate_from, AllWithin, HoldsAt}
+use Rattle.std.proofs.lemmas.List.FromFn.{length-enumerate_from, get_or-enumerate_from}
 use Rattle.bits.specs.Same.{same}
 use Rattle.bits.proofs.Cases.{by_cases}
-use Rattle.bits.proofs.Lists.{drop-next}
+use Rattle.bits.proofs.Same.{same_self}
 use Rattle.interleaver.specs.Expanded.{expanded_from}
-use Rattle.interleaver.proofs.Expanded.{expanded-next, expanded-end}
+use Rattle.interleaver.proofs.Expanded.{expanded-length, expanded-at}
+use Rattle.entries.proofs.Columns.{differ}
 
--- with what each should be
-module _ (ρ : ℕ → ℕ) (column : List ℕ) (i : ℕ) where
-  abbrev left : ℕ → Bool
-  left k = same (drop k column) (expanded_from ρ k (length column - k))
+-- with what its row should have
+pub rows_right : (ρ : ℕ → ℕ) (l : List ℕ) (r : Bool)
+    → (let rows = enumerate_from 0 l in
+    MatchBool r (AllWithin (λ (p : ℕ × ℕ). p.1 ≡ ρ p.0) rows 0 (length rows)) ((k : ℕ) × (k < length rows) × HoldsAt (λ (p : ℕ × ℕ). p.1 ≡ ρ p.0 → ⊥) rows k))
+    → r ≡ same l (expanded_from ρ 0 (length l))
+rows_right ρ l true right =
+    let E = expanded_from ρ 0 (length l) in
+    let equal : l ≡ E = ext_get_or 0 l E (sym (expanded-length ρ 0 (length l))) (λ k h.
+    let entry = get_or-enumerate_from 0 l k (0, 0) h in
+    sym (ap (λ (p : ℕ × ℕ). p.1) entry) ∙ right k (0, 0) (omega arith) (omega (arith, h, length-enumerate_from 0 l)) ∙ ap (λ (p : ℕ × ℕ). ρ p.0) entry
+    ∙ sym (expanded-at ρ 0 (length l) k 0 h)) in
+    sym (ap (λ (m : List ℕ). same m E) equal ∙ same_self E)
+rows_right ρ l false (k, low, wrong) =
+    let E = expanded_from ρ 0 (length l) in
+    let h : k < length l = omega (arith, low, length-enumerate_from 0 l) in
+    let entry = get_or-enumerate_from 0 l k (0, 0) h in
+    sym (differ l E (λ e. wrong (0, 0) (ap (λ (p : ℕ × ℕ). p.1) entry ∙ ap (λ (m : List ℕ). get_or m k 0) e ∙ expanded-at ρ 0 (length l) k 0 h ∙ sym (ap (λ (p : ℕ × ℕ). ρ p.0) entry))))
 
-  module _ (h : i < length column) where
-    pub right_here : get_or column i 0 ≡ ρ i → left i ≡ left (i + 1)
-    right_here e = rw (drop-next column i h, expanded-next ρ (length column) i h, eq-eqb (get_or column i 0) (ρ i) e)
-
-    pub wrong_here : (get_or column i 0 ≡ ρ i → ⊥) → left i ≡ false
-    wrong_here n = rw (drop-next column i h, expanded-next ρ (length column) i h, ne_eqb (get_or column i 0) (ρ i) n)
-
-  pub right_end : length column ≤ i → left i ≡ true
-  right_end h = rw (drop_of_length-le column {i = i} h, expanded-end ρ (length column) i h)
-
--- with what those a column before them say
-module _ (g : ℕ → ℕ) (before entries : List ℕ) (i : ℕ) where
-  abbrev behind : ℕ → Bool
-  behind k = same (drop k entries) (map g (drop k before))
-
-  pub agree_next : (right : Bool) → i < length before → length before ≡ length entries
-      → (right && behind i) ≡ ((right && eqb (get_or entries i 0) (g (get_or before i 0))) && behind (i + 1))
-  agree_next right h e =
-      rw (drop-next entries i (omega arith), drop-next before i h)
-      (by_cases right (λ t. rw t) (λ f. rw f))
-
-  pub agree_end : (right : Bool) → length entries ≤ i → length before ≡ length entries → (right && behind i) ≡ right
-  agree_end right h e =
-      rw (drop_of_length-le entries {i = i} h, drop_of_length-le before {i = i} (omega arith)) (by_cases right (λ t. rw t) (λ f. rw f))
+-- with what the one a column before it says
+pub same_behind : (g : ℕ → ℕ) (entries before : List ℕ) (right : Bool) → length before ≡ length entries
+    → fold (λ (r : Bool) (p : ℕ × ℕ). r && eqb p.0 (g p.1)) right (zip entries before) ≡ (right && same entries (map g before))
+same_behind g [] [] right e = by_cases right (λ t. rw t) (λ f. rw f)
+same_behind g [] (y ∷ ys) right e = absurd (omega arith)
+same_behind g (x ∷ xs) [] right e = absurd (omega arith)
+same_behind g (x ∷ xs) (y ∷ ys) right e = rw (same_behind g xs ys (right && eqb x (g y)) (omega arith)) (by_cases right (λ t. rw t) (λ f. rw f))

@@ -29,6 +29,7 @@ fn compare(permutation: &Permutation<'_>, memory: &[u16]) -> bool
         return false;
     }
     let last = memory.len() - w;
+    // Both are below I, so below 2^16, which `try_from` would ask again.
     compare_columns(w as u16, last as u16, &memory[..last], &memory[w..])
 }
 
@@ -37,12 +38,10 @@ fn compare_first(permutation: &Permutation<'_>, column: &[u16]) -> bool
     requires { length column.now ≡ length permutation.now.alpha.now }
     ensures { result ≡ same column.now (expanded_from (permuted permutation.now.alpha.now permutation.now.beta.now) 0 (length column.now)) }
 {
-    for (row, &entry) in column.iter().enumerate() {
-        if usize::from(entry) != permutation.position_in(0, row).number() {
-            return false;
-        }
-    }
-    true
+    column.iter().enumerate().all(|(row, &entry)| {
+        let position = permutation.position_in(0, row);
+        usize::from(entry) == position.number()
+    })
 }
 
 // Whether each entry is what the one a column before it says.
@@ -51,11 +50,12 @@ fn compare_columns(w: u16, last: u16, before: &[u16], entries: &[u16]) -> bool
     requires { (w + last < 2 ^ 16) × (length before.now ≡ length entries.now) }
     ensures { result ≡ same entries.now (map (column_on w last) before.now) }
 {
-    let mut right = true;
-    for (i, &entry) in entries.iter().enumerate() {
-        right &= entry == column_on(w, last, before[i]);
-    }
-    right
+    entries
+        .iter()
+        .zip(before)
+        .fold(true, |right, (&entry, &one_before)| {
+            right & (entry == column_on(w, last, one_before))
+        })
 }
 
 // The entry one column on.

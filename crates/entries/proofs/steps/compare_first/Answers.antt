@@ -1,27 +1,21 @@
-use mathlib.Core.Path.{◌≡◌, sym, ap, ◌∙◌}
-use Prim.Native.Nat.{◌+◌, ◌*◌}
+use mathlib.Core.Path.{◌≡◌}
+use Prim.Native.Nat.{ℕ, ◌+◌, ◌*◌}
 use native.Mathlib.Omega.{arith}
+use borrow.Author.Tests.{tests}
 use lib.ListN.{length}
+use Rattle.std.proofs.Common.{rules}
+use Rattle.std.proofs.lemmas.Iterator.{YieldsList-from_slice, cases_from_all}
+use Rattle.std.proofs.lemmas.Iterator.Consumers.{YieldsList-from_enumerate}
 use Rattle.interleaver.specs.Interleaver.{permuted}
-use Rattle.entries.proofs.Turns.{right_here, wrong_here}
-use Rattle.entries.proofs.steps.compare_first.Goals.{After-number}
+use Rattle.entries.proofs.Turns.{rows_right}
 use Rattle.entries.proofs.steps.compare_first.Goals as goal
 
--- what the entry of a turn should be
-due : (n : After-number) → (let p = n.args.permutation.now in n.number.result ≡ permuted p.alpha.now p.beta.now n.loop-row.row)
-due n =
-    let p = n.args.permutation.now in
-    let here : length p.alpha.now * 0 + n.loop-row.row ≡ n.loop-row.row = omega arith in
-    n.number.ensures ∙ n.position_in.ensures ∙ ap (permuted p.alpha.now p.beta.now) here
-
-pub returns-then-from-number : goal.returns-then-from-number
-returns-then-from-number c =
+pub returns : goal.returns
+returns c =
     let p = c.args.permutation.now in
-    let n = (goal.at.returns-then-from-number c).After-number in
-    sym (sym c.loop-row.invariant ∙ wrong_here (permuted p.alpha.now p.beta.now) c.args.column.now c.loop-row.row c.loop-row-test.true (λ e. c.if-from-number.true (c.from.ensures ∙ e ∙ sym (due n))))
-
-pub loop-row-preserved : goal.loop-row-preserved
-loop-row-preserved c =
-    let p = c.args.permutation.now in
-    let n = (goal.at.loop-row-preserved c).After-number in
-    sym (right_here (permuted p.alpha.now p.beta.now) c.args.column.now c.loop-row.row c.loop-row-test.true (sym c.from.ensures ∙ c.if-from-number.false ∙ due n)) ∙ c.loop-row.invariant
+    let ρ = permuted p.alpha.now p.beta.now in
+    let first : (row : ℕ) → length p.alpha.now * 0 + row ≡ row = λ row. omega arith in
+    rows_right ρ c.args.column.now c.all.result (
+    cases_from_all _ _ _ (λ x. x.1 ≡ ρ x.0) (λ x. x.1 ≡ ρ x.0 → ⊥) c.all.ensures.ran (YieldsList-from_enumerate (YieldsList-from_slice c.args.column.now cc) (cc))
+    (λ x q k. search (rules, tests, first)) (λ x q k. search (rules, tests, first))
+    )
