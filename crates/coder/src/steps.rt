@@ -1,6 +1,7 @@
 // Opened to the inner encoder alone: one bit, and the terminating steps.
 ghost use Rattle.std.specs.Prelude.{◌≡◌, ◌+◌, ◌^◌, ◌≤◌, ◌<◌, length};
 
+use puncture::steps::RateMatching;
 use trellis::State;
 
 // Where the inner encoder stands: the trellis' state, where each register goes on, and the counter of rate matching.
@@ -18,12 +19,12 @@ impl Coder {
     // One bit: it goes to the upper register if its mark is 1, and its parity to the lower if rate matching keeps it.
     // A bit that is not kept is stored too, since another will take its place: which bits are kept is too irregular for a branch to be foreseen,
     // and the terminating bits always follow. So a mark is added and not asked for.
-    pub fn turn(self, total: usize, delta: usize, mark: u8, u: u8, out: &mut [u8]) -> Coder
-        requires { (mark ≤ 1) × (self.upper < length out.old) × (self.lower < length out.old) × (delta ≤ total) × (self.counter + total < 2 ^ 64) }
-        ensures value { result ≡ turned total delta mark u self }
+    pub fn turn(self, rate: RateMatching, mark: u8, u: u8, out: &mut [u8]) -> Coder
+        requires { (mark ≤ 1) × (self.upper < length out.old) × (self.lower < length out.old) × (self.counter + rate.total < 2 ^ 64) }
+        ensures value { result ≡ turned rate.total rate.delta mark u self }
         ensures out_after { out.new ≡ stored u self out.old }
     {
-        let matching = puncture::steps::rate_match(total, delta, self.counter);
+        let matching = rate.turn(self.counter);
         out[self.upper] = u;
         out[self.lower] = self.state.parity(u);
         Coder {

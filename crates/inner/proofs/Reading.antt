@@ -67,6 +67,3 @@ module _ (ρ : ℕ → ℕ) (work : List ℕ) where
 
   pub end_later : (I i m : ℕ) (x : State) → i ≤ m → m ≤ I → ends (ends x (reads ρ work m i)) (reads ρ work I m) ≡ ends x (reads ρ work I i)
   end_later I i m x h k = sym (ap (ends x) (reads-split I i m h k) ∙ ends-append x (reads ρ work m i) (reads ρ work I m))
-
-  pub end_now : (I i : ℕ) (x : State) → I ≤ i → ends x (reads ρ work I i) ≡ x
-  end_now I i x h = ap (ends x) (read-end I i h)

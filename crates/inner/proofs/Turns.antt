@@ -64,9 +64,6 @@ module _ (r : Format) (ρ : ℕ → ℕ) (work : List ℕ) where
   going_start out i c fits = record { same = refl; upper = fits.upper-ends; lower = fits.lower-ends; apart = fits.apart; rest = refl }
 
   module _ {room : ℕ} {F out : List ℕ} (i : ℕ) (c : Coder) (going : Going room F out i c) where
-    pub going_fits : c.counter < r.i → Fits r ρ work i c
-    going_fits low = record { upper-ends = going.upper; lower-ends = going.lower; apart = going.apart; counter_low = low }
-
     pub going_rooms : N1 r ≤ room → (c.upper < length out) × (c.lower < length out)
     going_rooms fits = (
       two_room-upper fits going (upper_left_lem r.survivors ρ i (state_in c) (reads ρ work r.i i)),
@@ -101,9 +98,3 @@ module _ (r : Format) (ρ : ℕ → ℕ) (work : List ℕ) where
   -- at the end the terminating bits are
   pub completed-end : (i : ℕ) (c : Coder) (out : List ℕ) → r.i ≤ i → completed r ρ work i c out ≡ finished c out
   completed-end i c out h = rw (read-end ρ work r.i i h)
-
-  pub end_rooms : (i : ℕ) (c : Coder) → r.i ≤ i → Fits r ρ work i c → (c.upper + 1 < N1 r) × (c.lower + 1 < N1 r)
-  end_rooms i c h fits =
-      let up = ap (λ (l : List ℕ). c.upper + length (upper_from r.survivors ρ i (state_in c) l)) (read-end ρ work r.i i h) in
-      let low = ap (λ (l : List ℕ). c.lower + length (lower_from r.i r.delta c.counter (state_in c) l)) (read-end ρ work r.i i h) in
-      (omega (arith, up, low, fits.upper-ends, fits.lower-ends, fits.apart), omega (arith, low, fits.lower-ends))

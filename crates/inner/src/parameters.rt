@@ -3,26 +3,31 @@ ghost use Rattle.std.specs.Prelude.{◌≡◌, ℕ, ◌+◌, ◌*◌, ◌≤◌,
 ghost use Rattle.acm.specs.Formats.{M, format_of};
 ghost use Rattle.annex_c.specs.AnnexC.{size_of};
 ghost use Rattle.interleaver.specs.Interleaver.{π};
+ghost use Rattle.interleaver.specs.Place.{OfRow};
 ghost use Rattle.interleaver.specs.Walk.{Multiples};
 ghost use Rattle.puncture.specs.Puncture.{period, survives, LaidOut};
 
 use acm::{AcmFormat, Format};
 use annex_c_tables::steps::WIDEST;
-use interleaver::steps::{BANKS, Permutation};
+use interleaver::steps::{BANKS, Permutation, Place, Walk};
+use puncture::steps::RateMatching;
 use puncture::{LAID_OUT, PERIOD};
 
-// A format's record, its interleaver, and its puncturing pattern, laid out, in which a position is found by W × bank modulo 300. The vectors α and
+// A format's record, its interleaver, its rate matching, and its puncturing pattern, laid out, in which a position is found by W × bank modulo 300. The vectors α and
 // β are copied: the loop over the bits takes 1.1 times as long where it reaches them by pointers, for want of registers.
 #[derive(Clone, Copy)]
 pub struct Parameters {
     pub format: AcmFormat,
     pub figures: Format,
     pub permutation: Permutation<'static>,
-    pub alpha: [u16; WIDEST],
-    pub beta: [u8; WIDEST],
+    pub(crate) rate: RateMatching,
+    alpha: [u16; WIDEST],
+    beta: [u8; WIDEST],
     residues: [u16; BANKS],
     pattern: [u8; LAID_OUT],
     ghost figures_are: { figures ≡ format_of format.number },
+    ghost total_is: { rate.total ≡ (format_of format.number).i },
+    ghost delta_is: { rate.delta ≡ (format_of format.number).delta },
     ghost alpha_is: { permutation.alpha.now ≡ (size_of (format_of format.number).w).α },
     ghost beta_is: { permutation.beta.now ≡ (size_of (format_of format.number).w).β },
     ghost alpha_copied: { (row : ℕ) → row < length permutation.alpha.now → get_or alpha row 0 ≡ get_or permutation.alpha.now row 0 },
@@ -47,6 +52,7 @@ impl Parameters {
             format,
             figures,
             permutation,
+            rate: RateMatching::of(format),
             alpha,
             beta,
             residues: interleaver::steps::multiples(figures.w, PERIOD),
@@ -54,16 +60,26 @@ impl Parameters {
         }
     }
 
-    // The mark of the position that is read in a column at the row with these elements of α and β: 1 if the upper register keeps its bit, 0 if it
-    // is punctured.
-    pub fn mark_of(&self, column: usize, address: u16, shift: u8) -> u8
-        requires { (column < M) × (shift < M) × (address < length self.now.permutation.alpha.now) }
-        ensures low { result ≤ 1 }
-        ensures value { (row : ℕ) → row < length self.now.permutation.alpha.now → address ≡ get_or self.now.permutation.alpha.now row 0 → shift ≡ get_or self.now.permutation.beta.now row 0 → eqb result 1 ≡ survives (format_of self.now.format.number).survivors (π self.now.format.number (length self.now.permutation.alpha.now * column + row)) }
+    // The place where a walk stands.
+    pub(crate) fn place(&self, walk: Walk) -> Place
+        requires { (walk.column < M) × (walk.row < length self.now.permutation.alpha.now) }
+        ensures { (result.column ≡ walk.column) × OfRow self.now.permutation.alpha.now self.now.permutation.beta.now walk.row result }
     {
-        let residue = self
-            .permutation
-            .residue_of(&self.residues, column, address, shift);
+        let row = walk.row();
+        Place {
+            column: walk.column(),
+            address: self.alpha[row],
+            shift: self.beta[row],
+        }
+    }
+
+    // The mark of the position that is read at a place: 1 if the upper register keeps its bit, 0 if it is punctured.
+    pub fn mark_of(&self, place: Place) -> u8
+        requires { place.address < length self.now.permutation.alpha.now }
+        ensures low { result ≤ 1 }
+        ensures value { (row : ℕ) → OfRow self.now.permutation.alpha.now self.now.permutation.beta.now row place → eqb result 1 ≡ survives (format_of self.now.format.number).survivors (π self.now.format.number (length self.now.permutation.alpha.now * place.column + row)) }
+    {
+        let residue = self.permutation.residue_of(&self.residues, place);
         self.pattern[residue]
     }
 }

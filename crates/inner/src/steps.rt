@@ -81,18 +81,15 @@ impl Progress {
         ensures out_after { completes parameters.now.format.number work.now result out.new ≡ completes parameters.now.format.number work.now self out.old }
         ensures state_value { state_in result.coder ≡ ends (state_in self.coder) (reads (π parameters.now.format.number) work.now to self.walk.position.0) }
     {
-        let f = parameters.figures;
+        let rate = parameters.rate;
         let mut walk = self.walk;
         let mut coder = self.coder;
         // A `for` over the rows takes 1.1 times as long: it needs more registers than there are.
         while walk.position.0 < to {
-            let address = parameters.alpha[walk.row];
-            let shift = parameters.beta[walk.row];
-            let position = parameters
-                .permutation
-                .position_of(walk.column, address, shift);
-            let mark = parameters.mark_of(walk.column, address, shift);
-            coder = coder.turn(f.i, f.delta, mark, work[position.number()], out);
+            let place = parameters.place(walk);
+            let position = parameters.permutation.position_of(place);
+            let mark = parameters.mark_of(place);
+            coder = coder.turn(rate, mark, work[position.number()], out);
             walk = walk.down();
         }
         Progress {

@@ -12,6 +12,7 @@ use coder::steps::Coder;
 use inner::steps::Progress;
 use interleaver::UpperPosition;
 use puncture::PERIOD;
+use puncture::steps::RateMatching;
 
 // The codeword's trellis part, of the outer kept bits at the front of work, to the front of out, by the expanded interleaver at the front of
 // memory.
@@ -38,11 +39,12 @@ fn run(
     ensures out_after { completed (format_of format.number) (π format.number) work.now (format_of format.number).i result out.new ≡ completed (format_of format.number) (π format.number) work.now 0 (starting (format_of format.number)) out.old }
 {
     let f = format.record();
+    let rate = RateMatching::of(format);
     let mut coder = Progress::start(f).coder;
     for i in 0..f.i {
         let position = interleaver::steps::held(format, memory, UpperPosition(i)).number();
         let mark = pattern[position % PERIOD];
-        coder = coder.turn(f.i, f.delta, mark, work[position], out);
+        coder = coder.turn(rate, mark, work[position], out);
     }
     coder
 }

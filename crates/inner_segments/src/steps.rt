@@ -72,7 +72,9 @@ impl Run {
         let mut walk = self.walk;
         let mut state = self.state;
         while walk.position.0 < to {
-            let position = parameters.permutation.position_in(walk.column, walk.row);
+            let position = parameters
+                .permutation
+                .position_in(walk.column(), walk.row());
             state = state.next(work[position.number()]);
             walk = parameters.permutation.carry(walk.down());
         }

@@ -1,16 +1,12 @@
 -- A table of multiples is made by adding W: the banks below a number have theirs, in both halves of the table.
 use mathlib.Core.Path.{◌≡◌, sym, ap, ◌∙◌}
 use mathlib.Core.List.{List}
-use Prim.Native.Nat.{ℕ, ◌+◌, ◌*◌, ◌-◌, ◌%◌, ◌≤◌, ◌<◌}
-use native.Mathlib.Nat.{add-mod, mod-eq_of_lt, mod-eq-sub-mod}
+use Prim.Native.Nat.{ℕ, ◌+◌, ◌*◌, ◌%◌, ◌<◌}
+use native.Mathlib.Nat.{add-mod}
 use native.Mathlib.Omega.{arith}
-use borrow.Author.Tests.{ltb-true, ltb-false}
-use lib.Dec.{ltb}
 use lib.ListN.{length, get_or, set, length-set}
-use Rattle.bits.proofs.Cases.{by_cases}
 use Rattle.bits.proofs.Lists.{entry_set}
 use Rattle.acm.specs.Formats.{M}
-use Rattle.interleaver.specs.Walk.{Multiples}
 
 module _ (W P : ℕ) where
   abbrev pub Filled : List ℕ → ℕ → Type 0
@@ -32,14 +28,3 @@ module _ (W P : ℕ) where
         entry_set half (bank + M) m (k + M) _ (omega (arith, length-set out bank m)) (λ e. here (omega arith))
             (λ n. entry_set out bank m (k + M) _ (omega arith) (λ e. absurd (omega arith)) (λ o. (filled k (omega arith)).1)),
       )
-
-  pub filled_end : (out : List ℕ) → length out ≡ 2 * M → Filled out M → Multiples W P out
-  filled_end out long filled = record {
-    long = long;
-    entry = λ j h. by_cases (ltb j M)
-        (λ t. let l : j < M = ltb-true j M t in rw (mod-eq_of_lt l) (filled j l).0)
-        (λ f. let l : M ≤ j = ltb-false j M f in
-        let k : j - M < M = omega arith in
-        let e : j - M + M ≡ j = omega arith in
-        rw (mod-eq-sub-mod l, mod-eq_of_lt k) (ap (λ (n : ℕ). get_or out n 0) (sym e) ∙ (filled (j - M) k).1));
-  }

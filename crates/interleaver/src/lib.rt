@@ -11,6 +11,7 @@ use acm::AcmFormat;
 use annex_c_tables::steps::SizeVectors;
 use bits::Refusal;
 
+mod place;
 pub mod steps;
 
 // Banks of an interleaver, and columns of its positions.

@@ -5,8 +5,10 @@ ghost use Rattle.acm.specs.Formats.{M, format_of};
 ghost use Rattle.annex_c.specs.AnnexC.{Vectors, widest, size_of};
 ghost use Rattle.interleaver.specs.Interleaver.{permuted, π};
 ghost use Rattle.interleaver.specs.Expanded.{expands};
+ghost use Rattle.interleaver.specs.Place.{OfRow};
 ghost use Rattle.interleaver.specs.Walk.{Walked, InColumn, Multiples, down_one};
 
+pub use crate::place::Place;
 use crate::{InterleavedPosition, M, UpperPosition};
 use acm::AcmFormat;
 use annex_c_tables::steps::SizeVectors;
@@ -60,30 +62,27 @@ impl<'a> Permutation<'a> {
         requires { (column < M) × (row < length self.now.alpha.now) }
         ensures { result.0 ≡ permuted self.now.alpha.now self.now.beta.now (length self.now.alpha.now * column + row) }
     {
-        self.position_of(column, self.alpha[row], self.beta[row])
+        self.position_of(Place {
+            column,
+            address: self.alpha[row],
+            shift: self.beta[row],
+        })
     }
 
-    // The same of the row with these elements of α and β, by equation A-1. Nothing is divided.
-    pub fn position_of(&self, column: usize, address: u16, shift: u8) -> InterleavedPosition
-        requires { (column < M) × ((row : ℕ) × (row < length self.now.alpha.now) × (address ≡ get_or self.now.alpha.now row 0) × (shift ≡ get_or self.now.beta.now row 0)) }
-        ensures { (row : ℕ) → row < length self.now.alpha.now → address ≡ get_or self.now.alpha.now row 0 → shift ≡ get_or self.now.beta.now row 0 → result.0 ≡ permuted self.now.alpha.now self.now.beta.now (length self.now.alpha.now * column + row) }
+    // The same of the row that a place has the elements of, by equation A-1. Nothing is divided.
+    pub fn position_of(&self, place: Place) -> InterleavedPosition
+        requires { (row : ℕ) × OfRow self.now.alpha.now self.now.beta.now row place }
+        ensures { (row : ℕ) → OfRow self.now.alpha.now self.now.beta.now row place → result.0 ≡ permuted self.now.alpha.now self.now.beta.now (length self.now.alpha.now * place.column + row) }
     {
-        InterleavedPosition(looked_up(&self.starts, column, address, shift))
+        InterleavedPosition(place.looked_up(&self.starts))
     }
 
     // A number that leaves what that position leaves when divided by P; `residues` has W × bank modulo P. It is below P + α.
-    pub fn residue_of(
-        &self,
-        residues: &[u16; BANKS],
-        column: usize,
-        address: u16,
-        shift: u8,
-    ) -> usize
-        requires { (column < M) × (shift < M) }
-        ensures low { (P : ℕ) → 0 < P → Multiples (length self.now.alpha.now) P residues.now → result < P + address }
-        ensures leaves { (P row : ℕ) → Multiples (length self.now.alpha.now) P residues.now → row < length self.now.alpha.now → address ≡ get_or self.now.alpha.now row 0 → shift ≡ get_or self.now.beta.now row 0 → result % P ≡ permuted self.now.alpha.now self.now.beta.now (length self.now.alpha.now * column + row) % P }
+    pub fn residue_of(&self, residues: &[u16; BANKS], place: Place) -> usize
+        ensures low { (P : ℕ) → 0 < P → Multiples (length self.now.alpha.now) P residues.now → result < P + place.address }
+        ensures leaves { (P row : ℕ) → Multiples (length self.now.alpha.now) P residues.now → OfRow self.now.alpha.now self.now.beta.now row place → result % P ≡ permuted self.now.alpha.now self.now.beta.now (length self.now.alpha.now * place.column + row) % P }
     {
-        looked_up(residues, column, address, shift)
+        place.looked_up(residues)
     }
 
     // Where a walk to position `to` stops next: at the end of its column, or at `to` if that comes first.
@@ -117,8 +116,8 @@ impl<'a> Permutation<'a> {
 #[derive(Clone, Copy)]
 pub struct Walk {
     pub position: UpperPosition,
-    pub row: usize,
-    pub column: usize,
+    row: usize,
+    column: usize,
 }
 
 impl Walk {
@@ -131,6 +130,20 @@ impl Walk {
             row: 0,
             column: 0,
         }
+    }
+
+    // The row where it stands.
+    pub fn row(self) -> usize
+        ensures { result ≡ self.row }
+    {
+        self.row
+    }
+
+    // The column.
+    pub fn column(self) -> usize
+        ensures { result ≡ self.column }
+    {
+        self.column
     }
 
     // One row on in the column: nothing is carried.
@@ -152,14 +165,6 @@ pub fn held(format: AcmFormat, memory: &[u16], position: UpperPosition) -> Inter
     ensures { result.0 ≡ π format.number position.0 }
 {
     InterleavedPosition(usize::from(memory[position.0]))
-}
-
-// The entry of a row's bank in a column, and the row's α added.
-fn looked_up(banks: &[u16; BANKS], column: usize, address: u16, shift: u8) -> usize
-    requires { (column < M) × (shift < M) }
-    ensures { result ≡ get_or banks.now (column + shift) 0 + address }
-{
-    usize::from(banks[column + usize::from(shift)]) + usize::from(address)
 }
 
 // W × bank modulo a period, for each of the banks, made by adding W.

@@ -15,16 +15,8 @@ use Rattle.puncture.proofs.Zeroed.{pattern-length, pattern-low}
 use Rattle.inner.specs.Left.{starting}
 use Rattle.inner.proofs.Formats.{fits_whole}
 use Rattle.inner.proofs.Turns.{going_start, going_rooms, going_turn, counter_low}
-use Rattle.inner_expanded.proofs.steps.run.Goals.{After-number-position, After-record-f}
+use Rattle.inner_expanded.proofs.steps.run.Goals.{After-number-position}
 use Rattle.inner_expanded.proofs.steps.run.Goals as goal
-
--- the format's record
-module _ (p : After-record-f) where
-  i-is : p.record-f.result.i ≡ (format_of p.args.format.number).i
-  i-is = ap (λ (r : Format). r.i) p.record-f.ensures
-
-  delta-is : p.record-f.result.delta ≡ (format_of p.args.format.number).delta
-  delta-is = ap (λ (r : Format). r.delta) p.record-f.ensures
 
 -- the position that is read
 module _ (n : After-number-position) where
@@ -72,8 +64,7 @@ turn-coder-requires c =
       omega (arith, mark-is (goal.at.turn-coder-requires c).After-number-position, pattern-low (format_of f).survivors (position (goal.at.turn-coder-requires c).After-number-position % period)),
       rooms.0,
       rooms.1,
-      omega (arith, i-is (goal.at.turn-coder-requires c).After-record-f, delta-is (goal.at.turn-coder-requires c).After-record-f, sound.deletes),
-      omega (arith, i-is (goal.at.turn-coder-requires c).After-record-f, l.invariant.0, sound.banks, sound.widest),
+      omega (arith, c.of-rate.ensures.total_value, l.invariant.0, sound.banks, sound.widest),
     )
 
 pub loop-i-preserved : goal.loop-i-preserved
@@ -83,7 +74,7 @@ loop-i-preserved c =
     let l = c.loop-i in
     let d = (format-sound f c.args.format.listed).deletes in
     let bit = ap (λ (k : ℕ). get_or a.work.now k 0) (position-is (goal.at.loop-i-preserved c).After-number-position) in
-    rw (c.turn-coder.ensures.value, c.turn-coder.ensures.out_after, c.record-f.ensures) (
+    rw (c.turn-coder.ensures.value, c.turn-coder.ensures.out_after, c.of-rate.ensures.total_value, c.of-rate.ensures.delta_value) (
       counter_low (format_of f).i (format_of f).delta l.coder.counter (omega (arith, d)) l.invariant.0,
       going_turn (format_of f) (π f) a.work.now l.i l.coder l.invariant.1 (mark (goal.at.loop-i-preserved c).After-number-position) _ (more (goal.at.loop-i-preserved c).After-number-position) bit (ap (λ (m : ℕ). eqb m 1) (mark-is (goal.at.loop-i-preserved c).After-number-position)),
     )

@@ -39,38 +39,30 @@ module _ (t : In-loop-walk) where
   column : t.loop-walk.walk.column < M
   column = walked-column W t.loop-walk.walk (walked-inside W t.loop-walk.walk stands row) inside
 
-  -- the row's elements of the vectors
-  address : get_or p.alpha t.loop-walk.walk.row 0 ≡ get_or p.permutation.alpha.now t.loop-walk.walk.row 0
-  address = p.alpha_copied _ row
-
-  shift : get_or p.beta t.loop-walk.walk.row 0 ≡ get_or p.permutation.beta.now t.loop-walk.walk.row 0
-  shift = p.beta_copied _ row
-
   -- the position where it stands
-  here : π p.format.number (W * t.loop-walk.walk.column + t.loop-walk.walk.row) ≡ π p.format.number t.loop-walk.walk.position.0
-  here = ap (π p.format.number) (sym stands.position-is)
+  here : (k : ℕ) → k ≡ t.loop-walk.walk.column → π p.format.number (W * k + t.loop-walk.walk.row) ≡ π p.format.number t.loop-walk.walk.position.0
+  here k e = ap (λ (c : ℕ). π p.format.number (W * c + t.loop-walk.walk.row)) e ∙ ap (π p.format.number) (sym stands.position-is)
 
-pub bounds-parameters-walk : goal.bounds-parameters-walk
-bounds-parameters-walk c =
-    omega (arith, row (goal.at.bounds-parameters-walk c).In-loop-walk, c.args.parameters.now.permutation.ranges.narrow)
+pub place-place-requires : goal.place-place-requires
+place-place-requires c =
+    let t = (goal.at.place-place-requires c).In-loop-walk in
+    (column t, row t)
 
 pub position_of-position-requires : goal.position_of-position-requires
-position_of-position-requires c =
-    let t = (goal.at.position_of-position-requires c).In-loop-walk in
-    (column t, (_, row t, address t, shift t))
+position_of-position-requires c = (_, c.place-place.ensures.1)
 
 pub mark_of-mark-requires : goal.mark_of-mark-requires
 mark_of-mark-requires c =
-    let t = (goal.at.mark_of-mark-requires c).In-loop-walk in
-    let v = c.args.parameters.now.permutation.ranges in
-    (column t, rw (shift t) (v.β_range _ (row t)), rw (address t) (v.α_range _ (row t)))
+    let of = c.place-place.ensures.1 in
+    rw of.address-is (c.args.parameters.now.permutation.ranges.α_range _ of.row_low)
 
 pub bounds-work-number : goal.bounds-work-number
 bounds-work-number c =
     let t = (goal.at.bounds-work-number c).In-loop-walk in
     let p = c.args.parameters.now in
+    let at = c.place-place.ensures in
     let low = π-low p c.loop-walk.walk.position.0 (below t) in
-    let read = c.position_of-position.ensures _ (row t) (address t) (shift t) ∙ π-is p _ ∙ here t in
+    let read = c.position_of-position.ensures _ at.1 ∙ π-is p _ ∙ here t _ at.0 in
     omega (arith, c.number.ensures, read, low, c.requires.lent.outer-bits)
 
 pub turn-coder-requires : goal.turn-coder-requires
@@ -79,11 +71,10 @@ turn-coder-requires c =
     let f = p.format.number in
     let sound = format-sound f p.format.listed in
     let rooms = going_rooms (format_of f) (π f) c.args.work.now c.loop-walk.walk.position.0 c.loop-walk.coder c.loop-walk.invariant.4 c.requires.lent.room in
-    rw p.figures_are (
+    rw p.total_is (
       c.mark_of-mark.ensures.low,
       rooms.0,
       rooms.1,
-      omega (arith, sound.deletes),
       omega (arith, c.loop-walk.invariant.3, sound.banks, sound.widest),
     )
 
@@ -96,10 +87,11 @@ loop-walk-preserved c =
     let l = c.loop-walk in
     let i = l.walk.position.0 in
     let t = (goal.at.loop-walk-preserved c).In-loop-walk in
-    let read = c.position_of-position.ensures _ (row t) (address t) (shift t) ∙ π-is p _ ∙ here t in
+    let at = c.place-place.ensures in
+    let read = c.position_of-position.ensures _ at.1 ∙ π-is p _ ∙ here t _ at.0 in
     let bit = ap (λ (k : ℕ). get_or work k 0) (c.number.ensures ∙ read) in
-    let marked = c.mark_of-mark.ensures.value _ (row t) (address t) (shift t) ∙ ap (λ (k : ℕ). survives r.survivors k) (here t) in
-    rw (c.down-walk.ensures, c.turn-coder.ensures.value, c.turn-coder.ensures.out_after, p.figures_are) (
+    let marked = c.mark_of-mark.ensures.value _ at.1 ∙ ap (λ (k : ℕ). survives r.survivors k) (here t _ at.0) in
+    rw (c.down-walk.ensures, c.turn-coder.ensures.value, c.turn-coder.ensures.out_after, p.total_is, p.delta_is) (
       omega (arith, c.loop-walk-test.true),
       in_column_down _ l.walk l.invariant.1 (row t),
       l.invariant.2,

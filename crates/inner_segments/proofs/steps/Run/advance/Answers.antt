@@ -34,7 +34,7 @@ read_at : (c : After-position_in-position) → InColumn (length c.args.parameter
     → c.position_in-position.result.0 ≡ π c.args.parameters.now.format.number c.loop-walk.walk.position.0
 read_at c column =
     let p = c.args.parameters.now in
-    c.position_in-position.ensures ∙ π-is p _ ∙ ap (π p.format.number) (sym column.position-is)
+    rw (c.column.ensures, c.row.ensures) at c.position_in-position.ensures ∙ π-is p _ ∙ ap (π p.format.number) (sym column.position-is)
 
 -- one position on
 past : (c : After-carry-walk) → c.carry-walk.result.position.0 ≡ c.loop-walk.walk.position.0 + 1
@@ -43,7 +43,7 @@ past c = c.carry-walk.ensures.0 ∙ ap (λ (w : Walk). w.position.0) c.down.ensu
 pub position_in-position-requires : goal.position_in-position-requires
 position_in-position-requires c =
     let t = (goal.at.position_in-position-requires c).In-loop-walk in
-    (walked-column _ c.loop-walk.walk c.loop-walk.invariant.1 (inside t), row t)
+    rw (c.column.ensures, c.row.ensures) (walked-column _ c.loop-walk.walk c.loop-walk.invariant.1 (inside t), row t)
 
 pub bounds-work-number : goal.bounds-work-number
 bounds-work-number c =

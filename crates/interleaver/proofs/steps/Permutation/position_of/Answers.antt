@@ -2,12 +2,7 @@
 use Rattle.interleaver.proofs.Walks.{interleaved-in}
 use Rattle.interleaver.proofs.steps.Permutation.position_of.Goals as goal
 
-pub looked_up-requires : goal.looked_up-requires
-looked_up-requires c =
-    let (column, (row, inside, address, shift)) = c.requires in
-    (column, rw shift (c.args.self.now.ranges.β_range row inside))
-
 pub returns : goal.returns
-returns c row h α β =
+returns c row of =
     let p = c.args.self.now in
-    rw (c.looked_up.ensures, α, β) (interleaved-in _ _ p.ranges c.args.column row c.requires.0 h p.starts p.starts_are)
+    rw (c.looked_up.ensures, of.address-is, of.shift-is) (interleaved-in _ _ p.ranges c.args.place.column row c.args.place.column_low of.row_low p.starts p.starts_are)

@@ -5,8 +5,10 @@ use Rattle.interleaver.proofs.Walks.{residue_in, entry_low}
 use Rattle.interleaver.proofs.steps.Permutation.residue_of.Goals as goal
 
 pub returns-clause-low : goal.returns-clause-low
-returns-clause-low c P some m = omega (arith, c.looked_up.ensures, entry_low m some (c.args.column + c.args.shift) (omega (arith, c.requires)))
+returns-clause-low c P some m =
+    let at = c.args.place in
+    omega (arith, c.looked_up.ensures, entry_low m some (at.column + at.shift) (omega (arith, at.column_low, at.shift_low)))
 
 pub returns-clause-leaves : goal.returns-clause-leaves
-returns-clause-leaves c P row m h α β =
-    rw (c.looked_up.ensures, α, β) (residue_in _ _ c.args.self.now.ranges c.args.column row c.requires.0 h P _ m)
+returns-clause-leaves c P row m of =
+    rw (c.looked_up.ensures, of.address-is, of.shift-is) (residue_in _ _ c.args.self.now.ranges c.args.place.column row c.args.place.column_low of.row_low P _ m)
