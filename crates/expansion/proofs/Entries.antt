@@ -1,32 +1,29 @@
--- A loop that writes the entries of the positions in order, and what it writes in a format.
-use mathlib.Core.Path.{◌≡◌, ap, ◌∙◌}
+-- A loop that writes the entries of the positions, a column at a time, and what it writes in a format.
+use mathlib.Core.Path.{◌≡◌, sym, ap, ◌∙◌}
 use mathlib.Core.List.{List, ◌++◌}
-use Prim.Native.Nat.{ℕ, ◌+◌, ◌-◌, ◌≤◌, ◌<◌}
+use Prim.Native.Nat.{ℕ, ◌+◌, ◌-◌, ◌*◌, ◌≤◌}
 use native.Mathlib.Omega.{arith}
-use lib.ListN.{length, set, drop}
+use borrow.Rule.Slice.PartMut.{put_mid}
+use lib.ListN.{length, drop}
 use lib.Seq.{sets}
-use Rattle.bits.proofs.Fill.{Left, left_start, left_as, left_store, fill_end, sets-front}
+use Rattle.bits.proofs.Fill.{sets-append, sets-front}
+use Rattle.bits.proofs.Parts.{sets_of_part}
 use Rattle.acm.specs.Formats.{format_of}
 use Rattle.interleaver.specs.Interleaver.{π}
 use Rattle.interleaver.specs.Expanded.{expanded_from, expanded}
-use Rattle.interleaver.proofs.Expanded.{expanded-length, expanded-next, expanded-end, expanded-all}
+use Rattle.interleaver.proofs.Expanded.{expanded-length, expanded-append}
 
-module _ (ρ : ℕ → ℕ) (total : ℕ) (memory : List ℕ) where
-  -- those below i are written
-  abbrev pub Written : List ℕ → ℕ → Type 0
-  Written out i = Left memory 0 (expanded_from ρ 0 total) out i (expanded_from ρ i (total - i))
-
-  pub written_start : {i : ℕ} → i ≡ 0 → Written memory i
-  written_start e = rw (e, expanded-all ρ total) (left_start memory 0 (expanded_from ρ 0 total))
-
-  pub written_as : {out : List ℕ} {i j : ℕ} → j ≡ i → Written out i → Written out j
-  written_as e w = rw e w
-
-  pub written_next : {out : List ℕ} {i j : ℕ} → i < total → j ≡ i + 1 → Written out i → Written (set out i (ρ i)) j
-  written_next {i = i} h e w = rw e (left_store (left_as (expanded-next ρ total i h) w))
-
-  pub written_end : {out : List ℕ} {i : ℕ} → total ≤ i → Written out i → out ≡ sets memory 0 (expanded_from ρ 0 total)
-  written_end {i = i} h w = fill_end (expanded-end ρ total i h) w
+-- a column of W entries, written behind those before it
+pub column_behind : (ρ : ℕ → ℕ) (W : ℕ) (memory : List ℕ) {out : List ℕ} (column : ℕ) → W * column + W ≤ length out → out ≡ sets memory 0 (expanded_from ρ 0 (W * column))
+    → put_mid (W * column) (W * column + W - W * column) out (expanded_from ρ (W * column) W) ≡ sets memory 0 (expanded_from ρ 0 (W * (column + 1)))
+column_behind ρ W memory {out} column room written =
+    let at = W * column in
+    let long : at + W - at ≡ W = omega arith in
+    let before : 0 + length (expanded_from ρ 0 at) ≡ at = omega (arith, expanded-length ρ 0 at) in
+    let next : W * (column + 1) ≡ at + W = omega arith in
+    let z : 0 + at ≡ at = omega arith in
+    rw (long, sets_of_part at W out (expanded_from ρ at W) (expanded-length ρ at W) room, written, next, expanded-append ρ 0 at W, z)
+    (sym (sets-append memory 0 (expanded_from ρ 0 at) (expanded_from ρ at W) ∙ ap (λ (k : ℕ). sets (sets memory 0 (expanded_from ρ 0 at)) k (expanded_from ρ at W)) before))
 
 -- in a format, whose interleaver is π f
 pub built_is : (f : ℕ) (memory : List ℕ) → (format_of f).i ≤ length memory

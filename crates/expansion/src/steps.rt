@@ -1,5 +1,5 @@
 // Opened to the encoder of two channels alone.
-ghost use Rattle.std.specs.Prelude.{◌≡◌, ◌++◌, ◌*◌, ◌≤◌, length, drop};
+ghost use Rattle.std.specs.Prelude.{◌≡◌, ◌++◌, ◌*◌, ◌≤◌, ◌<◌, length, drop};
 ghost use Rattle.std.proofs.lemmas.List.Edits.{sets};
 ghost use Rattle.acm.specs.Formats.{M, format_of};
 ghost use Rattle.interleaver.specs.Interleaver.{permuted};
@@ -16,7 +16,8 @@ pub fn build(format: AcmFormat, memory: &mut [u16])
     write(&Permutation::of_format(format), memory);
 }
 
-// Writes the entries of all positions, a column at a time.
+// Writes the entries of all positions, a column at a time. Columns are cut out by index: what is written by way of `chunks_exact_mut` is lost to a
+// proof.
 fn write(permutation: &Permutation<'_>, memory: &mut [u16])
     requires { M * length permutation.now.alpha.now ≤ length memory.old }
     ensures { memory.new ≡ sets memory.old 0 (expanded_from (permuted permutation.now.alpha.now permutation.now.beta.now) 0 (M * length permutation.now.alpha.now)) }
@@ -24,8 +25,17 @@ fn write(permutation: &Permutation<'_>, memory: &mut [u16])
     let rows = permutation.rows();
     for column in 0..interleaver::M {
         let first = rows * column;
-        for row in 0..rows {
-            memory[first + row] = permutation.position_in(column, row).number() as u16;
-        }
+        write_column(permutation, column, &mut memory[first..first + rows]);
+    }
+}
+
+// Writes the entries of a column.
+fn write_column(permutation: &Permutation<'_>, column: usize, entries: &mut [u16])
+    requires { (column < M) × (length entries.old ≡ length permutation.now.alpha.now) }
+    ensures { entries.new ≡ expanded_from (permuted permutation.now.alpha.now permutation.now.beta.now) (length permutation.now.alpha.now * column) (length permutation.now.alpha.now) }
+{
+    for (row, entry) in entries.iter_mut().enumerate() {
+        // below I, so below 2^16, which `try_from` would ask again
+        *entry = permutation.position_in(column, row).number() as u16;
     }
 }

@@ -27,7 +27,7 @@ module _ (ρ : ℕ → ℕ) where
       let z : i + 1 + j ≡ i + suc j = omega arith in
       expanded-at (i + 1) n j d (omega arith) ∙ ap ρ z
 
-  expanded-append : (i n m : ℕ) → expanded_from ρ i (n + m) ≡ expanded_from ρ i n ++ expanded_from ρ (i + n) m
+  pub expanded-append : (i n m : ℕ) → expanded_from ρ i (n + m) ≡ expanded_from ρ i n ++ expanded_from ρ (i + n) m
   expanded-append i zero m =
       let e : i ≡ i + 0 = omega arith in
       let d : 0 + m ≡ m = omega arith in

@@ -1,19 +1,13 @@
--- Before each turn the entries of the positions before it are written.
-use Prim.Native.Nat.{◌+◌, ◌*◌}
+-- Before each turn the entries of the columns before it are written.
+use mathlib.Core.Path.{◌≡◌}
+use Prim.Native.Nat.{◌*◌}
 use lib.ListN.{length}
-use Rattle.acm.specs.Formats.{M}
+use lib.Seq.{sets}
 use Rattle.interleaver.specs.Interleaver.{permuted}
-use Rattle.expansion.proofs.Entries.{Written}
+use Rattle.interleaver.specs.Expanded.{expanded_from}
 use Rattle.expansion.proofs.steps.write.Given as goal
 
 abbrev pub invariant-loop-column : goal.invariant-loop-column
 invariant-loop-column l =
     let p = l.permutation in
-    let W = length p.alpha.now in
-    Written (permuted p.alpha.now p.beta.now) (M * W) l.fn.memory l.memory (W * l.column)
-
-abbrev pub invariant-loop-row : goal.invariant-loop-row
-invariant-loop-row l =
-    let p = l.permutation in
-    let W = length p.alpha.now in
-    Written (permuted p.alpha.now p.beta.now) (M * W) l.fn.memory l.memory (W * l.column + l.row)
+    l.memory ≡ sets l.fn.memory 0 (expanded_from (permuted p.alpha.now p.beta.now) 0 (length p.alpha.now * l.column))
