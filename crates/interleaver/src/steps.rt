@@ -172,14 +172,15 @@ pub fn multiples(w: usize, period: usize) -> [u16; BANKS]
     requires { (0 < period) × (period ≤ M * widest) }
     ensures { Multiples w period result }
 {
-    let mut out = [0; BANKS];
     let step = w % period;
     let mut multiple = 0;
-    for bank in 0..M {
-        out[bank] = multiple as u16;
-        out[bank + M] = multiple as u16;
+    let mut out = [0; BANKS];
+    for entry in out[..M].iter_mut() {
+        // below the period, so below 2^16, which `try_from` would ask again
+        *entry = multiple as u16;
         multiple = reduced(multiple + step, period);
     }
+    out.copy_within(..M, M);
     out
 }
 
