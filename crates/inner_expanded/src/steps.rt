@@ -41,6 +41,7 @@ fn run(
     let f = format.record();
     let rate = RateMatching::of(format);
     let mut coder = Progress::start(f).coder;
+    // By position: `held` alone makes an interleaved position of an entry, and an iterator over the entries would give bare numbers.
     for i in 0..f.i {
         let position = interleaver::steps::held(format, memory, UpperPosition(i)).number();
         let mark = pattern[position % PERIOD];

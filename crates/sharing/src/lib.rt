@@ -44,6 +44,7 @@ fn prepare(format: AcmFormat, memory: &mut [u16], held: u64) -> u64
     ensures value { result ≡ (format_of format.number).i }
     ensures memory_after { memory.new ≡ expanded format.number ++ drop (format_of format.number).i memory.old }
 {
+    // std has no `From<usize>` for `u64`
     let size = format.record().i as u64;
     if held != size {
         expansion::steps::build(format, memory);
@@ -68,6 +69,7 @@ fn check_shared(
     if memory.len() < size {
         return Err(Refusal::Memory);
     }
+    // as above
     if held == size as u64 && !entries::steps::holds(format, memory) {
         return Err(Refusal::Element);
     }
