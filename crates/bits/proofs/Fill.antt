@@ -37,9 +37,6 @@ module _ {out₀ : List ℕ} {at : ℕ} {ws out : List ℕ} {n : ℕ} where
     rest = rw (add-one n) l.rest;
   }
 
-  pub left-room_two : {x y : ℕ} {vs : List ℕ} → at + length ws ≤ length out₀ → Left out₀ at ws out n (x ∷ y ∷ vs) → n + 1 < length out
-  left-room_two room l = omega (arith, l.count, l.same)
-
   pub left-room_three : {x y z : ℕ} {vs : List ℕ} → at + length ws ≤ length out₀ → Left out₀ at ws out n (x ∷ y ∷ z ∷ vs) → n + 2 < length out
   left-room_three room l = omega (arith, l.count, l.same)
 
@@ -88,9 +85,6 @@ pub left-stretch : {out₀ : List ℕ} {at : ℕ} {ws out us : List ℕ} {n : �
 left-stretch new xs vs k split stored past l = rw (stored, past) (left_stores xs vs (left_as split l))
 
 -- a loop that counts its stores, k of them so far, from `at` on
-pub fill_start : (out₀ : List ℕ) (at : ℕ) (ws : List ℕ) → Left out₀ at ws out₀ (at + 0) ws
-fill_start out₀ at ws = rw add-zero (left_start out₀ at ws)
-
 module _ {out₀ : List ℕ} {at : ℕ} {ws out : List ℕ} where
   pub fill_next : (k : ℕ) {x : ℕ} {us vs : List ℕ} → us ≡ x ∷ vs → Left out₀ at ws out (at + k) us → Left out₀ at ws (set out (at + k) x) (at + (k + 1)) vs
   fill_next k e l =

@@ -37,7 +37,7 @@ pub enum Refusal {
     Memory = 15,
 }
 
-// The check's number.
+// The check's number: the enum's own, which `as` reads.
 impl From<Refusal> for u8 {
     ghost from_gives = { λ refusal number. number ≡ check_number refusal };
 
