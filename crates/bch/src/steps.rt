@@ -15,12 +15,15 @@ pub const CHECK_LENGTH: usize = 52;
 const BYTE_LENGTH: usize = 8;
 
 // The codeword of a list of bits, to the front of out: the bits, and behind them their check bits.
+// That they are bits is a clause: a type for it is no plainer, since what is encoded are pieces of a list and the bytes of a piece, each of which
+// would have to be shown to be bits as now.
 pub fn encode(list: &[u8], out: &mut [u8])
     requires { (all_bits list.now ≡ true) × (length list.now % byte_length ≡ 0) × (length list.now + check_length ≤ length out.old) }
     ensures { out.new ≡ coded list.now ++ drop (length list.now + check_length) out.old }
 {
-    out[..list.len()].copy_from_slice(list);
-    put_bits(check_word(list), &mut out[list.len()..]);
+    let n = list.len();
+    out[..n].copy_from_slice(list);
+    put_bits(check_word(list), &mut out[n..n + CHECK_LENGTH]);
 }
 
 // The check bits of a list, the first weighing 2^51.
@@ -48,6 +51,7 @@ fn feed(table: &[u64], word: u64, byte: u64) -> u64
     requires { (Table table.now) × (word < 2 ^ check_length) × (byte < 2 ^ byte_length) }
     ensures { (result < 2 ^ check_length) × (bits_of check_length result ≡ register_from lower (bits_of check_length word) (bits_of byte_length byte)) }
 {
+    // std has no `From` of such a word for an index; that nothing is lost is proved.
     let leaving = (byte ^ (word >> (CHECK_LENGTH - BYTE_LENGTH))) as usize;
     (word * (1 << BYTE_LENGTH) % (1 << CHECK_LENGTH)) ^ table[leaving]
 }
@@ -64,12 +68,13 @@ fn pack(bits: &[u8]) -> u64
     byte
 }
 
-// The check bits that a word holds, to the front of out.
+// The check bits that a word holds, to out.
 fn put_bits(word: u64, out: &mut [u8])
-    requires { check_length ≤ length out.old }
-    ensures { out.new ≡ bits_of check_length word ++ drop check_length out.old }
+    requires { length out.old ≡ check_length }
+    ensures { out.new ≡ bits_of check_length word }
 {
-    for k in 0..CHECK_LENGTH {
-        out[k] = ((word >> (CHECK_LENGTH - 1 - k)) % 2) as u8;
+    // std has no `From` of a word for one of its bits; that nothing is lost is proved.
+    for (k, bit) in out.iter_mut().enumerate() {
+        *bit = ((word >> (CHECK_LENGTH - 1 - k)) % 2) as u8;
     }
 }

@@ -5,12 +5,10 @@ use native.Mathlib.Nat.{pow-succ'}
 use native.Mathlib.Numerals.{add-one}
 use native.Mathlib.Omega.{arith}
 use lib.ListN.{length, get_or, take}
-use lib.Pow.{pow_mono}
-use lib.Seq.{take-suc, take_all}
+use lib.Seq.{take-suc}
 use Rattle.bits.specs.Words.{bits_of}
 use Rattle.bits.proofs.Legal.{legal-at}
 use Rattle.bits.proofs.Words.{bits-more}
-use Rattle.bch.specs.Register.{byte_length}
 use Rattle.bch.proofs.steps.pack.Goals as goal
 
 pub loop-bit-init : goal.loop-bit-init
@@ -33,21 +31,4 @@ loop-bit-preserved c =
     let b : c.from.result ≤ 1 = omega (arith, c.from.ensures, legal-at 1 c.args.bits.now c.requires.0 c.loop-bit.bit-index) in (
       more-small c.loop-bit.byte c.loop-bit.bit-index c.from.result b c.loop-bit.invariant.0,
       more c.args.bits.now c.loop-bit.byte c.loop-bit.bit-index c.from.result c.from.ensures b c.loop-bit-test.true c.loop-bit.invariant.1,
-    )
-
--- a byte so far is below 2^k, and so below 256 in the end
-low : (byte k : ℕ) → k ≤ byte_length → byte < 2 ^ k → byte < 2 ^ byte_length
-low byte k h g = omega (arith, pow_mono {i = k} {j = byte_length} h)
-
-pub overflow_mul-byte : goal.overflow_mul-byte
-overflow_mul-byte c = omega (arith, low c.loop-bit.byte c.loop-bit.bit-index (omega arith) c.loop-bit.invariant.0)
-
-pub overflow_add-byte : goal.overflow_add-byte
-overflow_add-byte c = omega (arith, low c.loop-bit.byte c.loop-bit.bit-index (omega arith) c.loop-bit.invariant.0, legal-at 1 c.args.bits.now c.requires.0 c.loop-bit.bit-index)
-
-pub returns : goal.returns
-returns c =
-    let all : c.loop-bit.bit-index ≡ byte_length = omega arith in (
-      low c.loop-bit.byte c.loop-bit.bit-index (omega arith) c.loop-bit.invariant.0,
-      rw all at c.loop-bit.invariant.1 ∙ take_all byte_length c.args.bits.now (omega arith),
     )
