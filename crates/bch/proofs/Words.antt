@@ -21,7 +21,7 @@ use Rattle.bits.proofs.Words.{length-bits, bits-split, bits-low, bits-mod, bits-
 use Rattle.bch.specs.Bch.{check_length, zeros, lower}
 use Rattle.bch.specs.Register.{byte_length, Table, register_from}
 use Rattle.bch.proofs.Laws.{lower-length, some}
-use Rattle.bch.proofs.Registers.{register_append, several}
+use Rattle.bch.proofs.Registers.{several}
 
 -- bits of the register that stay when eight leave
 abbrev pub staying : ℕ
@@ -59,15 +59,6 @@ module _ (word byte : ℕ) (entry : ℕ) (is : bits_of check_length entry ≡ re
       ∙ ap (λ (k : ℕ). (drop k (bits_of check_length word) ++ zeros k) ⊕* register_from lower (zeros check_length) (us ⊕* take k (bits_of check_length word))) n
       ∙ ap (λ (l : List ℕ). (drop byte_length l ++ zeros byte_length) ⊕* register_from lower (zeros check_length) (us ⊕* take byte_length l)) (bits-split byte_length staying word)
       ∙ ap₂ (λ (a b : List ℕ). (a ++ zeros byte_length) ⊕* register_from lower (zeros check_length) (us ⊕* b)) (drop_at high low byte_length many) (take_at high low byte_length many))
-
--- what is left of a list after its first eight bits, fed to a register that then holds another word
-pub feed_next : (list bits rest : List ℕ) (word next byte : ℕ) → list ≡ bits ++ rest → bits_of byte_length byte ≡ bits
-    → bits_of check_length next ≡ register_from lower (bits_of check_length word) (bits_of byte_length byte)
-    → register_from lower (bits_of check_length next) rest ≡ register_from lower (bits_of check_length word) list
-feed_next list bits rest word next byte split b e =
-    ap (λ (r : List ℕ). register_from lower r rest) (e ∙ ap (register_from lower (bits_of check_length word)) b)
-    ∙ sym (register_append lower (bits_of check_length word) bits rest)
-    ∙ ap (register_from lower (bits_of check_length word)) (sym split)
 
 -- a table, by one test over its entries
 abbrev test : ℕ → ℕ → Bool

@@ -35,6 +35,7 @@ fn check_word(list: &[u8]) -> u64
 }
 
 // What a register of zeros holds once it is fed with a list.
+#[tactic(auto, using(bits::proofs::Legal::legal_of_front))]
 fn run(table: &[u64], list: &[u8]) -> u64
     requires { (Table table.now) × (all_bits list.now ≡ true) × (length list.now % byte_length ≡ 0) }
     ensures { bits_of check_length result ≡ register_from lower (zeros check_length) list.now }

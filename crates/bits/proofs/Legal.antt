@@ -66,6 +66,10 @@ legal-at top (x ∷ l) e (suc k) = legal-at top l (legal-tail top x l e) k
 pub legal-front : (top : ℕ) (a b : List ℕ) → all_at_most top (a ++ b) ≡ true → all_at_most top a ≡ true
 legal-front top a b e = left-true (all_at_most top a) (all_at_most top b) (rw (legal-both top a b) at e)
 
+-- the front of a list, as an iterator over its chunks lends it
+pub legal_of_front : (top : ℕ) (list front rest : List ℕ) → list ≡ front ++ rest → all_at_most top list ≡ true → all_at_most top front ≡ true
+legal_of_front top list front rest split h = legal-front top front rest (rw split at h)
+
 pub legal-take : (top n : ℕ) (l : List ℕ) → all_at_most top l ≡ true → all_at_most top (take n l) ≡ true
 legal-take top n l e = legal-front top (take n l) (drop n l) (rw (take-append-drop n l) e)
 
