@@ -13,5 +13,5 @@ pub fn put_pieces(format: AcmFormat, block: &[u8], out: &mut [u8])
     ensures { out.new ≡ sets out.old (N1 (format_of format.number)) (hard_coded format.number block.now) }
 {
     let f = format.record();
-    pieces::steps::write(f.m - f.soft, &block[f.k1..], &mut out[f.soft * SYMBOLS..]);
+    pieces::steps::write(&block[f.k1..], &mut out[f.soft * SYMBOLS..]);
 }

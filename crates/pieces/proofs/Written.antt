@@ -1,61 +1,66 @@
--- What is left to write after j codewords, each of which is written to the front of what is left of the buffer.
-use mathlib.Core.Path.{◌≡◌, refl, sym, ap, ◌∙◌}
-use mathlib.Core.List.{List, [], ◌++◌, append_assoc}
-use Prim.Native.Nat.{ℕ, suc, ◌+◌, ◌-◌, ◌*◌, ◌≤◌, ◌<◌}
-use native.Mathlib.Nat.{sub-zero}
+-- The codewords of the pieces that are left, from one piece to the next.
+use mathlib.Core.Path.{◌≡◌, ap, ◌∙◌}
+use mathlib.Core.Bool.{true}
+use mathlib.Core.List.{List, [], ◌++◌}
+use Prim.Native.Nat.{ℕ, suc, ◌+◌, ◌-◌, ◌*◌, ◌/◌, ◌%◌, ◌≤◌, ◌<◌}
 use native.Mathlib.Omega.{arith}
 use borrow.Rule.Slice.PartMut.{put_mid}
-use lib.ListN.{length, take, drop, length-drop, take-append-drop}
-use lib.Seq.{sets, sets-eq, drop-drop, length-take-le}
-use Rattle.std.proofs.lemmas.List.{drop-append-le}
-use Rattle.bits.proofs.Fill.{Left, left-stretch}
+use lib.ListN.{length, take, drop, length-append, length-drop}
+use lib.Seq.{take_at, drop_at, length-take-le}
+use Rattle.bits.specs.Legal.{all_bits}
+use Rattle.bits.proofs.Fill.{Left, left_as, left_end, left-stretch}
+use Rattle.bits.proofs.Legal.{legal-front, legal-rest}
+use Rattle.bits.proofs.Parts.{sets_of_front}
 use Rattle.acm.specs.Formats.{piece_length, symbols}
 use Rattle.bch.specs.Bch.{check_length, coded}
+use Rattle.bch.specs.Register.{byte_length}
 use Rattle.bch.proofs.Laws.{coded-length}
-use Rattle.pieces.specs.Pieces.{coded_pieces}
+use Rattle.pieces.specs.Pieces.{all_coded}
 
--- what a write to the front of a part, of n elements from the place at on, leaves
-pub sets_of_front : (at n : ℕ) (out list new : List ℕ) → length list ≤ n → at + n ≤ length out → new ≡ list ++ drop (length list) (take n (drop at out))
-    → put_mid at n out new ≡ sets out at list
-sets_of_front at n out list new low room e =
-    let part = drop at out in
-    let k = length list in
-    let fits : k ≤ length (take n part) = omega (arith, length-take-le n part (omega (arith, length-drop at out))) in
-    let behind : drop k (take n part) ++ drop n part ≡ drop (at + k) out =
-    sym (drop-append-le k (take n part) (drop n part) fits) ∙ ap (drop k) (take-append-drop n part) ∙ drop-drop k at out in
-    rw (e, append_assoc list (drop k (take n part)) (drop n part), behind)
-    (sym (sets-eq list out at (omega arith) ∙ append_assoc (take at out) list (drop (at + k) out)))
+-- after count codewords, those of the pieces that are left are left to store
+pub record PiecesLeft (out₀ list out : List ℕ) (count size : ℕ) (rest : List ℕ) : Type 0 where
+  pub size_is : size ≡ piece_length
+  pub bits : all_bits rest ≡ true
+  pub left : Left out₀ 0 (all_coded list) out (count * symbols) (all_coded rest)
 
-abbrev pub pieces_left : ℕ → List ℕ → ℕ → List ℕ
-pieces_left n bits j = coded_pieces (n - j) (drop (j * piece_length) bits)
+-- a piece, and what is left behind it
+module _ (rest piece next : List ℕ) (split : rest ≡ piece ++ next) (long : length piece ≡ piece_length) where
+  coded_next : all_coded rest ≡ coded piece ++ all_coded next
+  coded_next =
+      let many : length rest / piece_length ≡ suc (length next / piece_length) = omega (arith, ap length split, length-append piece next) in
+      rw (many, split, take_at piece next piece_length long, drop_at piece next piece_length long)
 
-pub pieces-all : (n : ℕ) (bits : List ℕ) → coded_pieces n bits ≡ pieces_left n bits 0
-pieces-all n bits = rw sub-zero
+module _ {out₀ list out rest : List ℕ} {count size : ℕ} (p : PiecesLeft out₀ list out count size rest) (room : length (all_coded list) ≤ length out₀) where
+  module _ (piece next : List ℕ) (split : rest ≡ piece ++ next) (lent : length piece ≡ size) (j : ℕ) (at : j ≡ count) where
+    long : length piece ≡ piece_length
+    long = lent ∙ p.size_is
 
-pub pieces_none : (n : ℕ) (bits : List ℕ) (j : ℕ) → n ≤ j → pieces_left n bits j ≡ []
-pieces_none n bits j h = let z : n - j ≡ 0 = omega arith in rw z
+    coded_long : length (coded piece) ≡ symbols
+    coded_long = omega (arith, coded-length piece, long)
 
-module _ (count : ℕ) (bits : List ℕ) (j : ℕ) (long : length bits ≡ piece_length * count) (h : j < count) where
-  -- piece j, as it is lent: k bits
-  abbrev piece : ℕ → List ℕ
-  piece k = take k (drop (j * piece_length) bits)
+    inside : j * symbols + symbols ≤ length out
+    inside = rw at (omega (arith, p.left.count, p.left.same, room, ap length (coded_next rest piece next split long), length-append (coded piece) (all_coded next), coded_long))
 
-  pub piece_length_lem : (k : ℕ) → k ≡ piece_length → length (piece k) ≡ piece_length
-  piece_length_lem k e = length-take-le k (drop (j * piece_length) bits) (rw length-drop (omega arith)) ∙ e
+    pub piece_asks : (all_bits piece ≡ true) × (length piece % byte_length ≡ 0) × (length piece + check_length ≤ length (take (length out - j * symbols) (drop (j * symbols) out)))
+    piece_asks =
+        let part = length-take-le (length out - j * symbols) (drop (j * symbols) out) (omega (arith, length-drop (j * symbols) out)) in
+        (legal-front 1 piece next (rw split at p.bits), omega (arith, long), omega (arith, part, long, inside))
 
-  pieces-next : pieces_left count bits j ≡ coded (piece piece_length) ++ pieces_left count bits (j + 1)
-  pieces-next =
-      let s : count - j ≡ suc (count - (j + 1)) = omega arith in
-      let d : j * piece_length + piece_length ≡ (j + 1) * piece_length = omega arith in
-      rw (s, drop-drop piece_length (j * piece_length) bits, d)
+    -- its codeword is written to the front of what is behind the others'
+    pub piece_turn : (new : List ℕ) (after same : ℕ)
+        → new ≡ coded piece ++ drop (length piece + check_length) (take (length out - j * symbols) (drop (j * symbols) out)) → after ≡ count + 1 → same ≡ size
+        → PiecesLeft out₀ list (put_mid (j * symbols) (length out - j * symbols) out new) after same next
+    piece_turn new after same is past kept =
+        let stored = sets_of_front (j * symbols) (length out - j * symbols) out (coded piece) new (omega (arith, coded_long, inside)) (omega (arith, inside)) (rw (coded-length piece) is) in
+        record {
+          size_is = kept ∙ p.size_is;
+          bits = legal-rest 1 piece next (rw split at p.bits);
+          left = left-stretch _ (coded piece) (all_coded next) (after * symbols) (coded_next rest piece next split long) (rw (← at) stored) (omega (arith, past, at, coded_long)) p.left;
+        }
 
-  -- one codeword more, written to the front of the n elements from its place on
-  pub pieces-turn : {out₀ ws out : List ℕ} (k n : ℕ) (new : List ℕ) → k ≡ piece_length → symbols ≤ n → j * symbols + n ≤ length out
-      → new ≡ coded (piece k) ++ drop (length (piece k) + check_length) (take n (drop (j * symbols) out))
-      → Left out₀ 0 ws out (j * symbols) (pieces_left count bits j) → Left out₀ 0 ws (put_mid (j * symbols) n out new) ((j + 1) * symbols) (pieces_left count bits (j + 1))
-  pieces-turn {out = out} k n new e low room is l =
-      let many = coded-length (piece k) in
-      let long = piece_length_lem k e in
-      let stored = sets_of_front (j * symbols) n out (coded (piece k)) new (omega (arith, many, long)) room (rw many is) in
-      left-stretch (put_mid (j * symbols) n out new) (coded (piece piece_length)) (pieces_left count bits (j + 1)) ((j + 1) * symbols) pieces-next
-      (rw e at stored) (omega (arith, many, long, coded-length (piece piece_length), piece_length_lem piece_length refl)) l
+  -- no piece is left
+  pub pieces_end : length rest < size → out ≡ all_coded list ++ drop (length (all_coded list)) out₀
+  pieces_end few =
+      let none : length rest / piece_length ≡ 0 = omega (arith, p.size_is) in
+      let z : all_coded rest ≡ [] = rw none in
+      left_end room (left_as z p.left)

@@ -1,18 +1,18 @@
 // Opened to the encoder alone: the BCH codewords of some pieces.
-ghost use Rattle.std.specs.Prelude.{◌≡◌, true, ◌++◌, ◌*◌, ◌≤◌, length, drop};
+ghost use Rattle.std.specs.Prelude.{◌≡◌, true, ◌++◌, ◌≤◌, length, drop};
 ghost use Rattle.bits.specs.Legal.{all_bits};
-ghost use Rattle.acm.specs.Formats.{piece_length, symbols};
-ghost use Rattle.pieces.specs.Pieces.{coded_pieces};
+ghost use Rattle.pieces.specs.Pieces.{all_coded};
 
 use acm::{PIECE_LENGTH, SYMBOLS};
 
-// The codewords of so many pieces, one behind the other, to the front of out.
-pub fn write(count: usize, list: &[u8], out: &mut [u8])
-    requires { (all_bits list.now ≡ true) × (length list.now ≡ piece_length * count) × (symbols * count ≤ length out.old) }
-    ensures { out.new ≡ coded_pieces count list.now ++ drop (symbols * count) out.old }
+// The codewords of a list's pieces, one behind the other, to the front of out.
+// That the list is of bits is a clause: a type for it is no plainer, since each piece would have to be shown to be of bits as now.
+// The codewords are written by index: what is written through `chunks_exact_mut` is lost to a proof.
+pub fn write(list: &[u8], out: &mut [u8])
+    requires { (all_bits list.now ≡ true) × (length (all_coded list.now) ≤ length out.old) }
+    ensures { out.new ≡ all_coded list.now ++ drop (length (all_coded list.now)) out.old }
 {
-    for j in 0..count {
-        let start = j * PIECE_LENGTH;
-        bch::steps::encode(&list[start..start + PIECE_LENGTH], &mut out[j * SYMBOLS..]);
+    for (j, piece) in list.chunks_exact(PIECE_LENGTH).enumerate() {
+        bch::steps::encode(piece, &mut out[j * SYMBOLS..]);
     }
 }
