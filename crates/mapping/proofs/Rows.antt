@@ -7,8 +7,8 @@ use native.Mathlib.Nat.{pow-suc, pow-succ', add-zero, div-div-eq-div-mul}
 use native.Mathlib.Numerals.{add-one}
 use native.Mathlib.Omega.{arith}
 use borrow.Author.Tests.{le-leb}
-use lib.ListN.{length, get_or, drop, take, replicate, length-drop, get_or-append}
-use lib.Seq.{length-take-le, get_or-take, get_or-drop}
+use lib.ListN.{length, get_or, drop, take, replicate, length-append, length-drop, get_or-append}
+use lib.Seq.{length-take-le, get_or-drop, take_at, drop_at, drop-drop}
 use lib.Pow.{pow_mono, le_ones}
 use Rattle.bits.specs.Digits.{value}
 use Rattle.bits.specs.Legal.{all_at_most, all_bits}
@@ -17,7 +17,7 @@ use Rattle.bits.proofs.Legal.{legal-at}
 use Rattle.bits.proofs.Lists.{drop-next}
 use Rattle.acm.specs.Formats.{symbols}
 use Rattle.mapping.specs.Columns.{appended}
-use Rattle.mapping.specs.Labels.{row_from, label, labels_from, labels}
+use Rattle.mapping.specs.Labels.{row_from, label, labels_from, labels, columns}
 
 row_next : (codeword : List ℕ) (p m : ℕ) → row_from codeword p (suc m) ≡ row_from codeword p m ++ get_or codeword (p + m * symbols) 0 ∷ []
 row_next codeword p zero =
@@ -133,32 +133,49 @@ label-front (suc m) a b r h e =
     ∙ ap₂ (λ (n d : ℕ). 2 * n + d) (label-front m a b r h (omega arith)) (get_or-append a b 0 (r + m * symbols) (omega arith))
     ∙ sym (label-next m a r)
 
--- what column c, lent, and the labels of c bits before it are like; n is 8,100 as the code computes it
-module _ (c m n : ℕ) (codeword out rest : List ℕ) (bits : all_bits codeword ≡ true) (low : c < m) (high : m ≤ 8) (long : length codeword ≡ symbols * m)
-    (whole : n ≡ symbols) (is : out ≡ labels c codeword ++ rest) where
-  column-inside : c * symbols + symbols ≤ length codeword
-  column-inside = omega (arith, long)
+-- after some columns the labels of as many bits stand before what is behind them, and the other columns are left
+pub record ColumnsLeft (codeword behind out : List ℕ) (size : ℕ) (rest : List ℕ) : Type 0 where
+  pub size_is : size ≡ symbols
+  pub done : ℕ
+  pub rest_is : rest ≡ drop (done * symbols) codeword
+  pub inside : done * symbols ≤ length codeword
+  pub labelled : out ≡ labels done codeword ++ behind
 
-  column-long : length (take n (drop (c * symbols) codeword)) ≡ symbols
-  column-long = length-take-le n (drop (c * symbols) codeword) (omega (arith, length-drop (c * symbols) codeword, column-inside)) ∙ whole
+module _ {codeword behind out rest : List ℕ} {size : ℕ} (p : ColumnsLeft codeword behind out size rest) where
+  rest_long : p.done * symbols + length rest ≡ length codeword
+  rest_long = omega (arith, ap length p.rest_is, length-drop (p.done * symbols) codeword, p.inside)
 
-  pub column_asks : symbols ≤ length out
-      → (length (take n (drop (c * symbols) codeword)) ≤ length out)
-      × ((r : ℕ) → r < length (take n (drop (c * symbols) codeword)) → 2 * get_or out r 0 + get_or (take n (drop (c * symbols) codeword)) r 0 < 256)
-  column_asks room = (
-    omega (arith, column-long),
-    λ r h.
-        (let inside : r < symbols = omega (arith, column-long) in
-        let before : get_or out r 0 ≡ label c codeword r = ap (λ (l : List ℕ). get_or l r 0) is ∙ labels-get c codeword rest r inside in
-        let bit : get_or (take n (drop (c * symbols) codeword)) r 0 ≡ get_or codeword (c * symbols + r) 0 =
-        get_or-take n (drop (c * symbols) codeword) r 0 (omega (arith, whole)) ∙ get_or-drop (c * symbols) codeword r 0 in
-        let e : c * symbols + r ≡ r + c * symbols = omega arith in
-        omega (arith, before, bit, ap (λ (k : ℕ). get_or codeword k 0) e, label-fits c m codeword r bits low high)),
-  )
+  -- a column, and what is left behind it
+  module _ (column next : List ℕ) (split : rest ≡ column ++ next) (lent : length column ≡ size) where
+    column_long : length column ≡ symbols
+    column_long = lent ∙ p.size_is
 
-  pub column-gives : {after : List ℕ} → after ≡ appended (take n (drop (c * symbols) codeword)) out → after ≡ labels (c + 1) codeword ++ rest
-  column-gives e =
-      e
-      ∙ ap (λ (k : ℕ). appended (take k (drop (c * symbols) codeword)) out) whole
-      ∙ ap (appended (take symbols (drop (c * symbols) codeword))) is
-      ∙ labels-turn c codeword rest column-inside
+    column_inside : p.done * symbols + symbols ≤ length codeword
+    column_inside = omega (arith, rest_long, ap length split, length-append column next, column_long)
+
+    pub bit_fits : all_bits codeword ≡ true → columns codeword ≤ 8 → (r : ℕ) → r < length column → 2 * get_or out r 0 + get_or column r 0 < 256
+    bit_fits bits high r h =
+        let before : get_or out r 0 ≡ label p.done codeword r = ap (λ (l : List ℕ). get_or l r 0) p.labelled ∙ labels-get p.done codeword behind r (omega (arith, column_long)) in
+        let bit : get_or column r 0 ≡ get_or codeword (p.done * symbols + r) 0 =
+        sym (get_or-append column next 0 r h) ∙ ap (λ (l : List ℕ). get_or l r 0) (sym split ∙ p.rest_is) ∙ get_or-drop (p.done * symbols) codeword r 0 in
+        let e : p.done * symbols + r ≡ r + p.done * symbols = omega arith in
+        let low : p.done < columns codeword = omega (arith, column_inside) in
+        omega (arith, before, bit, ap (λ (k : ℕ). get_or codeword k 0) e, label-fits p.done (columns codeword) codeword r bits low high)
+
+    pub column_turn : (after : List ℕ) (same : ℕ) → after ≡ appended column out → same ≡ size → ColumnsLeft codeword behind after same next
+    column_turn after same is kept =
+        let column_is : take symbols (drop (p.done * symbols) codeword) ≡ column = ap (take symbols) (sym p.rest_is ∙ split) ∙ take_at column next symbols column_long in
+        let past : p.done * symbols + symbols ≡ (p.done + 1) * symbols = omega arith in
+        record {
+          size_is = kept ∙ p.size_is;
+          done = p.done + 1;
+          rest_is = sym (ap (drop symbols) (sym p.rest_is ∙ split) ∙ drop_at column next symbols column_long) ∙ drop-drop symbols (p.done * symbols) codeword ∙ ap (λ (k : ℕ). drop k codeword) past;
+          inside = omega (arith, column_inside);
+          labelled = is ∙ ap₂ appended (sym column_is) p.labelled ∙ labels-turn p.done codeword behind column_inside;
+        }
+
+  -- no column is left
+  pub columns_end : length rest < size → out ≡ labels (columns codeword) codeword ++ behind
+  columns_end few =
+      let all : p.done ≡ columns codeword = omega (arith, rest_long, p.size_is) in
+      p.labelled ∙ ap (λ (n : ℕ). labels n codeword ++ behind) all

@@ -1,6 +1,6 @@
 -- The row-column interleaver (4.5) and the labels (4.6). The codeword is written column by column into 8,100 rows of m bits; a label is a row,
 -- read as a number whose first bit weighs most.
-use Rattle.std.specs.Prelude.{List, [], ◌∷◌, ℕ, zero, suc, ◌+◌, get_or}
+use Rattle.std.specs.Prelude.{List, [], ◌∷◌, ℕ, zero, suc, ◌+◌, ◌/◌, length, get_or}
 use Rattle.bits.specs.Digits.{value}
 use Rattle.acm.specs.Formats.{symbols}
 
@@ -19,3 +19,7 @@ labels_from m codeword r (suc k) = label m codeword r ∷ labels_from m codeword
 
 unfoldable pub labels : ℕ → List ℕ → List ℕ
 labels m codeword = labels_from m codeword 0 symbols
+
+-- the columns of a codeword, and so the bits of its labels
+abbrev pub columns : List ℕ → ℕ
+columns codeword = length codeword / symbols

@@ -2,24 +2,24 @@
 ghost use Rattle.std.specs.Prelude.{◌≡◌, true, ◌++◌, ℕ, ◌+◌, ◌*◌, ◌≤◌, ◌<◌, length, get_or, drop};
 ghost use Rattle.bits.specs.Legal.{all_bits};
 ghost use Rattle.acm.specs.Formats.{symbols};
-ghost use Rattle.mapping.specs.Labels.{labels};
+ghost use Rattle.mapping.specs.Labels.{columns, labels};
 ghost use Rattle.mapping.specs.Columns.{appended};
 
 use acm::SYMBOLS;
 
-// The labels of m bits of a codeword, to the front of out.
-pub fn write(m: usize, codeword: &[u8], out: &mut [u8])
-    requires { (m ≤ 8) × (length codeword.now ≡ symbols * m) × (all_bits codeword.now ≡ true) × (symbols ≤ length out.old) }
-    ensures { out.new ≡ labels m codeword.now ++ drop symbols out.old }
+// The labels of a codeword, of as many bits as it has columns, to the front of out.
+// That it is of bits is a clause: a type for it is no plainer, since the one caller would have to show it to be of bits as now.
+pub fn write(codeword: &[u8], out: &mut [u8])
+    requires { (columns codeword.now ≤ 8) × (all_bits codeword.now ≡ true) × (symbols ≤ length out.old) }
+    ensures { out.new ≡ labels (columns codeword.now) codeword.now ++ drop symbols out.old }
 {
     out[..SYMBOLS].fill(0);
-    for c in 0..m {
-        let start = c * SYMBOLS;
-        append(&codeword[start..start + SYMBOLS], out);
+    for column in codeword.chunks_exact(SYMBOLS) {
+        append(column, out);
     }
 }
 
-// Doubles each label so far and adds the bit of the next column.
+// Doubles each label so far and adds the bit of the next column. By index: what is written through `iter_mut` with `zip` is lost to a proof.
 fn append(column: &[u8], out: &mut [u8])
     requires column_in_bounds { length column.now ≤ length out.old }
     requires by_index { (r : ℕ) → r < length column.now → 2 * get_or out.old r 0 + get_or column.now r 0 < 256 }

@@ -1,18 +1,27 @@
-use Prim.Native.Nat.{◌+◌, ◌-◌, ◌*◌}
-use native.Mathlib.Omega.{arith}
-use Rattle.acm.specs.Formats.{symbols}
-use Rattle.mapping.proofs.Rows.{labels_start, column_asks, column-gives}
+use Rattle.std.proofs.Common.{refl, arith}
+use Rattle.mapping.proofs.Rows.{labels_start, bit_fits, column_turn, columns_end}
 use Rattle.mapping.proofs.steps.write.Goals as goal
 
-pub loop-c-init : goal.loop-c-init
-loop-c-init c = labels_start c.args.codeword.now c.args.out.now c.fill.new.self c.requires.3 (c.fill.ensures.after (λ y e. e))
+pub loop-column-init : goal.loop-column-init
+loop-column-init c =
+    let items = c.chunks_exact-column-items.ensures in
+    rw (c.into_iter-column-iterator.ensures.into_iter_gives, items.size, items.rest) (record {
+      size_is = refl;
+      done = 0;
+      rest_is = refl;
+      inside = omega arith;
+      labelled = labels_start c.args.codeword.now c.args.out.now c.fill.new.self c.requires.2 (c.fill.ensures.after (λ y e. e));
+    })
 
 pub append-requires-clause-by_index : goal.append-requires-clause-by_index
 append-requires-clause-by_index c =
-    (column_asks c.loop-c.c c.args.m (c.loop-c.c * symbols + symbols - c.loop-c.c * symbols) c.args.codeword.now c.loop-c.out _ c.requires.2 c.loop-c-test.true c.requires.0 c.requires.1
-    (omega arith) c.loop-c.invariant (omega (arith, c.loop-c.auto.out, c.requires.3))).1
+    let s = c.in-Some.ensures.steps in
+    bit_fits c.loop-column.invariant _ _ s.1.0 s.1.1 c.requires.1 c.requires.0
 
-pub loop-c-preserved : goal.loop-c-preserved
-loop-c-preserved c =
-    column-gives c.loop-c.c c.args.m (c.loop-c.c * symbols + symbols - c.loop-c.c * symbols) c.args.codeword.now c.loop-c.out _ c.requires.2 c.loop-c-test.true c.requires.0 c.requires.1
-    (omega arith) c.loop-c.invariant c.append.ensures
+pub loop-column-preserved : goal.loop-column-preserved
+loop-column-preserved c =
+    let s = c.in-Some.ensures.steps in
+    column_turn c.loop-column.invariant _ _ s.1.0 s.1.1 _ _ c.append.ensures s.0
+
+pub returns : goal.returns
+returns c = columns_end c.loop-column.invariant c.in-None.ensures.steps.1.0

@@ -1,10 +1,8 @@
 -- After c columns the first 8,100 bytes are the labels of c bits.
-use mathlib.Core.Path.{◌≡◌}
-use mathlib.Core.List.{◌++◌}
-use lib.ListN.{drop}
+use Rattle.std.proofs.Common.{drop}
 use Rattle.acm.specs.Formats.{symbols}
-use Rattle.mapping.specs.Labels.{labels}
+use Rattle.mapping.proofs.Rows.{ColumnsLeft}
 use Rattle.mapping.proofs.steps.write.Given as goal
 
-abbrev pub invariant-loop-c : goal.invariant-loop-c
-invariant-loop-c l = l.out ≡ labels l.c l.codeword ++ drop symbols l.fn.out
+abbrev pub invariant-loop-column : goal.invariant-loop-column
+invariant-loop-column l = ColumnsLeft l.codeword (drop symbols l.fn.out) l.out l.column-iterator.size l.column-iterator.rest.now
