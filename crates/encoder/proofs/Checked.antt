@@ -1,32 +1,16 @@
--- The number of a call, from its checks one behind the other; and what the number 0 says of its arguments: that all of its checks hold.
-use mathlib.Core.Path.{◌≡◌, refl, sym, ◌∙◌}
+-- What the number 0 of a call says of its arguments: that all of its checks hold.
+use mathlib.Core.Path.{◌≡◌, refl, sym}
 use mathlib.Core.Bool.{true}
-use mathlib.Core.List.{List, [], ◌∷◌, ◌++◌}
+use mathlib.Core.List.{List}
 use Prim.Native.Nat.{ℕ, ◌≤◌}
 use borrow.Author.Tests.{leb-true, eqb-true}
-use lib.Dec.{lit<, eqb}
+use lib.Dec.{lit<}
 use lib.ListN.{length}
-use Rattle.bits.specs.Checks.{Check, ◌or_else◌, first_failed, check_number, passed, bad_length, bad_element}
-use Rattle.bits.specs.declared.checks.Refusal.{Refusal}
+use Rattle.bits.specs.Checks.{◌or_else◌, passed}
 use Rattle.bits.specs.Legal.{all_bits}
-use Rattle.bits.proofs.Passed.{passes, fails_first}
-use Rattle.bits.proofs.Refusals.{not_passed}
+use Rattle.bits.proofs.Passed.{passes}
 use Rattle.acm.specs.Formats.{symbols, is_format, format_of}
 use Rattle.encoder.specs.Calls.{encode_checks, encode_number, labels_checks, labels_number}
-
--- a list of n bits
-abbrev pub bits_checks : List ℕ → ℕ → List Check
-bits_checks list n = eqb (length list) n or_else bad_length ∷ all_bits list or_else bad_element ∷ []
-
-pub bits-passed : (list : List ℕ) (n : ℕ) → passed ≡ first_failed (bits_checks list n) → (eqb (length list) n ≡ true) × (all_bits list ≡ true)
-bits-passed list n e =
-    let part = passes (bits_checks list n) (true or_else passed) refl (sym e) in
-    (part 0 (lit< tt), part 1 (lit< tt))
-
--- if one of these fails, what stands behind them is not asked
-pub bits-refused : (list : List ℕ) (n : ℕ) (rooms : List Check) (r : Refusal) → check_number r ≡ first_failed (bits_checks list n)
-    → check_number r ≡ first_failed (bits_checks list n ++ rooms)
-bits-refused list n rooms r e = e ∙ sym (fails_first (bits_checks list n) rooms (λ p. not_passed r (e ∙ p)))
 
 pub record EncodePassed (f : ℕ) (block : List ℕ) (work_room out_room : ℕ) : Type 0 where
   pub known : is_format f ≡ true
@@ -67,6 +51,3 @@ labels-passed f codeword room e =
       bits = part 2 (lit< tt);
       fits = leb-true _ _ (part 3 (lit< tt));
     }
-
-pub labels_passed-at : {n f : ℕ} {codeword : List ℕ} {room : ℕ} → n ≡ f → passed ≡ labels_number f codeword room → LabelsPassed n codeword room
-labels_passed-at {f = f} {codeword} {room} is e = rw is (labels-passed f codeword room (sym e))

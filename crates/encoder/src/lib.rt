@@ -31,6 +31,7 @@ pub fn encode(format: u64, block: &[u8], work: &mut [u8], out: &mut [u8]) -> Res
 }
 
 // The ACM format of a call of encode that passes its checks.
+#[tactic(auto, using(std::proofs::lemmas::Bool::Decides::nat_tests), unfolding(crate::specs::Calls::encode_number))]
 pub fn check_encode(
     format: u64,
     block: &[u8],
@@ -38,7 +39,7 @@ pub fn check_encode(
     out: usize,
 ) -> Result<AcmFormat, Refusal>
     ensures number { number_of result ≡ encode_number format block.now work out }
-    ensures format_value { IfOk result (λ f. f.number ≡ format) }
+    ensures known { IfOk result (λ f. f.number ≡ format) }
 {
     let format = AcmFormat::try_from(format)?;
     let f = format.record();
@@ -59,22 +60,22 @@ pub fn labels(format: u64, codeword: &[u8], out: &mut [u8]) -> Result<(), Refusa
     ensures number { number_of result ≡ labels_number format codeword.now (length out.old) }
     ensures output { out.new ≡ labels_output format codeword.now out.old }
 {
-    let format = check_labels(format, codeword, out.len())?;
-    mapping::steps::write(format.record().m, codeword, out);
+    check_labels(format, codeword, out.len())?;
+    mapping::steps::write(codeword, out);
     Ok(())
 }
 
-// The ACM format of a call of labels that passes its checks.
-fn check_labels(format: u64, codeword: &[u8], room: usize) -> Result<AcmFormat, Refusal>
-    ensures number { number_of result ≡ labels_number format codeword.now room }
-    ensures format_value { IfOk result (λ f. f.number ≡ format) }
+// The checks of labels.
+#[tactic(auto, using(std::proofs::lemmas::Bool::Decides::nat_tests), unfolding(crate::specs::Calls::labels_number))]
+fn check_labels(format: u64, codeword: &[u8], room: usize) -> Result<(), Refusal>
+    ensures { number_of result ≡ labels_number format codeword.now room }
 {
     let format = AcmFormat::try_from(format)?;
     check_bits(codeword, format.record().n)?;
     if room < acm::SYMBOLS {
         return Err(Refusal::Output);
     }
-    Ok(format)
+    Ok(())
 }
 
 // Whether a list is of so many bits.

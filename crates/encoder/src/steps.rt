@@ -8,6 +8,7 @@ ghost use Rattle.encoder.specs.Codeword.{hard_coded};
 use acm::{AcmFormat, SYMBOLS};
 
 // The codewords of a block's pieces, behind its trellis part.
+// That the block is of bits is a clause: a type for it is no plainer, since the pieces' part of it would have to be shown to be of bits as now.
 pub fn put_pieces(format: AcmFormat, block: &[u8], out: &mut [u8])
     requires { (length block.now ≡ (format_of format.number).k) × (all_bits block.now ≡ true) × ((format_of format.number).n ≤ length out.old) }
     ensures { out.new ≡ sets out.old (N1 (format_of format.number)) (hard_coded format.number block.now) }

@@ -12,6 +12,7 @@ use trellis::State;
 
 // The outer trellis over a block of even length, terminated, by the segments between cuts: its kept bits go to the front of work.
 // Answers the states of the segments.
+// That the block is of bits is a clause: a type for it is no plainer, since the one caller would have to show it to be of bits as now.
 pub fn encode(block: &[u8], cuts: &[u16], work: &mut [u8]) -> States
     requires block_len { (length block.now % 2 ≡ 0) × (all_bits block.now ≡ true) × Cuts (length block.now) cuts.now }
     requires block_in_bounds { length (outer block.now) ≤ length work.old }

@@ -16,23 +16,23 @@ returns-in_err-format-clause-number c =
 
 pub returns-then-memory-size-clause-number : goal.returns-then-memory-size-clause-number
 returns-then-memory-size-clause-number c =
-    let known = c.in_ok-format.ensures in
-    short _ _ _ _ c.args.memory.now c.args.held (sym known.number) (c.record-size.ensures ∙ ap format_of known.format_value) c.if-memory-size.true
+    let checked = c.in_ok-format.ensures in
+    short _ _ _ _ c.args.memory.now c.args.held (sym checked.number) (c.record-size.ensures ∙ ap format_of checked.known) c.if-memory-size.true
 
 pub returns-then-not-holds-clause-number : goal.returns-then-not-holds-clause-number
 returns-then-not-holds-clause-number c =
-    let known = c.in_ok-format.ensures in
-    wrong_entry _ _ _ _ c.args.memory.now c.args.held (sym known.number) (c.record-size.ensures ∙ ap format_of known.format_value) c.if-memory-size.false
-    c.if-held-size.true (sym (rw known.format_value at c.if-not-holds.ensures))
+    let checked = c.in_ok-format.ensures in
+    wrong_entry _ _ _ _ c.args.memory.now c.args.held (sym checked.number) (c.record-size.ensures ∙ ap format_of checked.known) c.if-memory-size.false
+    c.if-held-size.true (sym (rw checked.known at c.if-not-holds.ensures))
 
 pub returns-clause-number : goal.returns-clause-number
 returns-clause-number c =
-    let known = c.in_ok-format.ensures in
-    let is = c.record-size.ensures ∙ ap format_of known.format_value in
+    let checked = c.in_ok-format.ensures in
+    let is = c.record-size.ensures ∙ ap format_of checked.known in
     elim c.else-held-size.branch [
       | else-held-size-via-then-held-size+else-not-holds w ↦
-          right_entries _ _ _ _ c.args.memory.now c.args.held (sym known.number) is c.if-memory-size.false w.if-held-size.true
-          (sym (rw known.format_value at w.if-not-holds.ensures))
+          right_entries _ _ _ _ c.args.memory.now c.args.held (sym checked.number) is c.if-memory-size.false w.if-held-size.true
+          (sym (rw checked.known at w.if-not-holds.ensures))
       | else-held-size-via-else-held-size w ↦
-          other_size _ _ _ _ c.args.memory.now c.args.held (sym known.number) is c.if-memory-size.false w.if-held-size.false
+          other_size _ _ _ _ c.args.memory.now c.args.held (sym checked.number) is c.if-memory-size.false w.if-held-size.false
     ]

@@ -82,8 +82,7 @@ pub write-requires : goal.write-requires
 write-requires c =
     let f = c.args.format.number in
     let known = c.args.format.listed in
-    let block = c.args.block.now in
-    (
+    let block = c.args.block.now in (
       ap all_bits (part-is f known c.record-f.ensures block c.requires.0) ∙ legal-drop 1 (format_of f).k1 block c.requires.1,
       part_room f known c.record-f.ensures block c.requires.0 c.args.out.now c.requires.2,
     )
