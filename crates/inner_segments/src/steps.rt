@@ -63,7 +63,9 @@ struct Run {
 }
 
 impl Run {
-    // The run over the bits up to a later position. The walk counts the positions: a `for` would count them once more.
+    // The run over the bits up to a later position. The walk counts the positions: a `for` would count them once more. No fold over a list, as
+    // the first pass of the outer trellis is: the bits lie in work at the places that the walk makes, and the next run goes on from where it
+    // stands.
     fn advance(self, parameters: &Parameters, work: &[u8], to: usize) -> Run
         requires { Walked (length parameters.now.permutation.alpha.now) self.walk × (self.walk.position.0 ≤ to) × (to ≤ (format_of parameters.now.format.number).i) × ((format_of parameters.now.format.number).i ≤ length work.now) }
         ensures walked { Walked (length parameters.now.permutation.alpha.now) result.walk × (result.walk.position.0 ≡ to) }

@@ -26,12 +26,6 @@ loop-j-init c =
       ending = rw (all, none, position) (ending_start cuts _ (read_length (π p.format.number) c.args.work.now 0 i));
     }
 
-pub advance-end-requires : goal.advance-end-requires
-advance-end-requires c =
-    let i = c.loop-j.invariant in
-    let is = c.in-Some.ensures.steps.0 in
-    (i.walked, ahead_up i.ahead is, ahead_low i.ahead is, c.requires.0)
-
 pub bounds-ended-j : goal.bounds-ended-j
 bounds-ended-j c = rw c.in-Some.ensures.steps.1 (ending_room c.loop-j.invariant.ending (cuts_few c.requires.1) c.in-Some.ensures.steps.0)
 

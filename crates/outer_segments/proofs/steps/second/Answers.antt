@@ -7,7 +7,7 @@ use Rattle.cuts.specs.Cuts.{stops, between}
 use Rattle.cuts.proofs.Propagations.{ends-between}
 use Rattle.cuts.proofs.Segments.{ahead_start, ahead_up, ahead_low, ahead_next, ahead-end}
 use Rattle.cuts.proofs.Sixteen.{starting_start, starting_state, starting_on, starting-end}
-use Rattle.outer_segments.proofs.Kept.{stored_start, stored_next, stored-end, segment_room}
+use Rattle.outer_segments.proofs.Kept.{stored_start, stored_next, stored-end}
 use Rattle.outer_segments.proofs.steps.second.Goals as goal
 
 pub loop-to-init : goal.loop-to-init
@@ -20,15 +20,6 @@ loop-to-init c =
       last = refl;
       stored = stored_start c.args.block.now c.args.work.now;
     })
-
-pub slice_bounds-segment-end : goal.slice_bounds-segment-end
-slice_bounds-segment-end c = ahead_low c.loop-to.invariant.ahead c.in-Some.ensures.steps.0
-
-pub segment-last-requires : goal.segment-last-requires
-segment-last-requires c =
-    let (is, _) = c.in-Some.ensures.steps in
-    let i = c.loop-to.invariant in
-    segment_room c.args.block.now c.loop-to.from c.in-Some.to i.stored (ahead_up i.ahead is) (ahead_low i.ahead is) c.requires.block_in_bounds
 
 pub loop-to-preserved : goal.loop-to-preserved
 loop-to-preserved c =
