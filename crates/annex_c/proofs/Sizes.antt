@@ -2,24 +2,24 @@
 use mathlib.Core.Path.{◌≡◌, ◌∙◌}
 use mathlib.Core.Bool.{true, false≢true}
 use mathlib.Core.List.{List, [], ◌∷◌}
-use Prim.Native.Nat.{ℕ, suc}
+use Prim.Native.Nat.{ℕ}
 use borrow.Author.Tests.{eqb-true}
 use lib.Dec.{eqb}
 use lib.ListN.{length, get_or}
+use Rattle.std.specs.List.{list_all}
+use Rattle.std.proofs.lemmas.Bool.{and_parts}
 use Rattle.bits.specs.Permutation.{Permutes}
 use Rattle.bits.proofs.Cases.{by_cases}
-use Rattle.bits.proofs.Table.{left-true, right_true, every}
 use Rattle.annex_c.specs.Sizes.{Size, sizes}
 use Rattle.annex_c.specs.AnnexC.{Vectors, among, find, is_size, size_of}
 use Rattle.annex_c.proofs.Test.{Sound, test, tested, test-sound}
 
 -- the size that is found passed the test, and has the W asked for
-found-sound : (w : ℕ) (ss : List Size) (k : ℕ) → every (λ i s. test s) k ss ≡ true → among w ss ≡ true → Sound (find w ss)
-found-sound w [] k t h = absurd (false≢true h)
-found-sound w (s ∷ ss) k t h =
-    by_cases (eqb s.W w)
-    (λ e. rw e (test-sound s (left-true (test s) _ t)))
-    (λ n. rw n (found-sound w ss (suc k) (right_true (test s) _ t) (rw n at h)))
+found-sound : (w : ℕ) (ss : List Size) → list_all test ss ≡ true → among w ss ≡ true → Sound (find w ss)
+found-sound w [] t h = absurd (false≢true h)
+found-sound w (s ∷ ss) t h =
+    let (here, rest) = and_parts (test s) (list_all test ss) t in
+    by_cases (eqb s.W w) (λ e. rw e (test-sound s here)) (λ n. rw n (found-sound w ss rest (rw n at h)))
 
 found_width : (w : ℕ) (ss : List Size) → among w ss ≡ true → (find w ss).W ≡ w
 found_width w [] h = absurd (false≢true h)
@@ -28,7 +28,7 @@ found_width w (s ∷ ss) h = by_cases (eqb s.W w) (λ e. rw e (eqb-true s.W w e)
 module _ (w : ℕ) (h : is_size w ≡ true) where
   size-sound : Sound (size_of w)
   unfolding is_size size_of
-  size-sound = found-sound w sizes 0 tested h
+  size-sound = found-sound w sizes tested h
 
   pub size-vectors : Vectors (size_of w).α (size_of w).β
   size-vectors = size-sound.vectors

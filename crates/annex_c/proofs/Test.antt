@@ -7,6 +7,8 @@ use native.Mathlib.Omega.{arith}
 use borrow.Author.Tests.{leb-true, ltb-true, eqb-true}
 use lib.Dec.{leb, ltb, eqb, lit<}
 use lib.ListN.{length, get_or}
+use Rattle.std.specs.List.{list_all}
+use Rattle.std.proofs.lemmas.List.Sums.{AllPass-from_list_all}
 use Rattle.bits.specs.Permutation.{Permutes}
 use Rattle.bits.proofs.Table.{every, every-at, below, below_at}
 use Rattle.acm.specs.Formats.{M}
@@ -37,8 +39,8 @@ tests e r s =
     eqb W s.W
     ∷ eqb (length s.β) W
     ∷ leb W widest
-    ∷ every (λ j x. ltb x W) 0 s.α
-    ∷ every (λ j x. ltb x M) 0 s.β
+    ∷ list_all (λ x. ltb x W) s.α
+    ∷ list_all (λ x. ltb x M) s.β
     ∷ every (λ j x. eqb (digit e j) x) 0 s.α
     ∷ every (λ j x. eqb (digit r x) j) 0 s.α
     ∷ below (λ x. ltb (digit r x) W) W
@@ -46,25 +48,25 @@ tests e r s =
     ∷ []
 
 abbrev pub test : Size → Bool
-test s = every (λ i t. t) 0 (tests (elements s.α) (rows 0 s.α) s)
+test s = list_all (λ t. t) (tests (elements s.α) (rows 0 s.α) s)
 
-pub tested : every (λ k s. test s) 0 sizes ≡ true
+pub tested : list_all test sizes ≡ true
 unfolding sizes
 tested = refl
 
-module _ (e r : ℕ) (s : Size) (t : every (λ i t. t) 0 (tests e r s) ≡ true) where
+module _ (e r : ℕ) (s : Size) (t : list_all (λ t. t) (tests e r s) ≡ true) where
   part : (k : ℕ) → k < 9 → get_or (tests e r s) k true ≡ true
-  part = every-at (λ i t. t) (tests e r s) true t
+  part k = AllPass-from_list_all (λ t. t) (tests e r s) t k true
 
   same_length : length s.β ≡ length s.α
   same_length = eqb-true _ _ (part 1 (lit< tt))
 
   module _ (j : ℕ) (h : j < length s.α) where
     α-low : get_or s.α j 0 < length s.α
-    α-low = ltb-true _ _ (every-at (λ j x. ltb x (length s.α)) s.α 0 (part 3 (lit< tt)) j h)
+    α-low = ltb-true _ _ (AllPass-from_list_all (λ x. ltb x (length s.α)) s.α (part 3 (lit< tt)) j 0 h)
 
     β-low : get_or s.β j 0 < M
-    β-low = ltb-true _ _ (every-at (λ j x. ltb x M) s.β 0 (part 4 (lit< tt)) j (omega (arith, same_length)))
+    β-low = ltb-true _ _ (AllPass-from_list_all (λ x. ltb x M) s.β (part 4 (lit< tt)) j 0 (omega (arith, same_length)))
 
     element_at : digit e j ≡ get_or s.α j 0
     element_at = eqb-true _ _ (every-at (λ j x. eqb (digit e j) x) s.α 0 (part 5 (lit< tt)) j h)

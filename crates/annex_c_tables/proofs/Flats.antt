@@ -1,17 +1,18 @@
 -- The flat tables: a size's rows stand behind those of the sizes before it.
-use mathlib.Core.Path.{◌≡◌, refl, ◌∙◌}
+use mathlib.Core.Path.{◌≡◌, ◌∙◌}
 use mathlib.Core.Bool.{true, false, false≢true}
 use mathlib.Core.List.{List, [], ◌∷◌, ◌++◌, map}
-use Prim.Native.Nat.{ℕ, suc, ◌+◌, ◌-◌, ◌^◌, ◌≤◌, ◌<◌}
+use Prim.Native.Nat.{ℕ, ◌+◌, ◌-◌, ◌≤◌, ◌<◌}
 use native.Mathlib.Omega.{arith}
 use borrow.Author.Tests.{eqb-true, ne_eqb}
 use lib.Dec.{eqb}
 use lib.ListN.{length, get_or, take, drop, length-append}
 use lib.Seq.{take_at, drop-append-add}
+use Rattle.std.specs.List.{list_all}
+use Rattle.std.proofs.lemmas.Bool.{and_parts}
 use Rattle.bits.specs.Place.{place}
 use Rattle.bits.proofs.Cases.{by_cases}
 use Rattle.bits.proofs.Lists.{drop-next}
-use Rattle.bits.proofs.Table.{left-true, right_true, every}
 use Rattle.annex_c.specs.Sizes.{Size, sizes}
 use Rattle.annex_c.specs.AnnexC.{among, find, is_size, size_of}
 use Rattle.annex_c_tables.specs.Flat.{Tables, widths, flat, rows_before}
@@ -49,25 +50,24 @@ drop_past a b n m e = rw (← e) (drop-append-add a b m)
 
 -- a table with the vector v of each size has the size's own behind the rows of the sizes before it
 module _ (v : Size → List ℕ) (long : (s : Size) → Sound s → length (v s) ≡ s.W) (w : ℕ) where
-  head_long : (s : Size) (ss : List Size) (k : ℕ) → every (λ i s. test s) k (s ∷ ss) ≡ true → length (v s) ≡ s.W
-  head_long s ss k t = long s (test-sound s (left-true (test s) _ t))
-
-  rows_inside : (ss : List Size) (k : ℕ) → every (λ i s. test s) k ss ≡ true → among w ss ≡ true → rows_before w (widths ss) + w ≤ length (flat v ss)
-  rows_inside [] k t h = absurd (false≢true h)
-  rows_inside (s ∷ ss) k t h =
-      let l = head_long s ss k t in
+  rows_inside : (ss : List Size) → list_all test ss ≡ true → among w ss ≡ true → rows_before w (widths ss) + w ≤ length (flat v ss)
+  rows_inside [] t h = absurd (false≢true h)
+  rows_inside (s ∷ ss) t h =
+      let (here, rest) = and_parts (test s) (list_all test ss) t in
+      let l = long s (test-sound s here) in
       let both = length-append (v s) (flat v ss) in
       by_cases (eqb s.W w)
       (λ e. rw e (omega (arith, eqb-true s.W w e)))
-      (λ n. rw n (omega (arith, rows_inside ss (suc k) (right_true (test s) _ t) (rw n at h))))
+      (λ n. rw n (omega (arith, rows_inside ss rest (rw n at h))))
 
-  rows_are : (ss : List Size) (k : ℕ) → every (λ i s. test s) k ss ≡ true → among w ss ≡ true → take w (drop (rows_before w (widths ss)) (flat v ss)) ≡ v (find w ss)
-  rows_are [] k t h = absurd (false≢true h)
-  rows_are (s ∷ ss) k t h =
-      let l = head_long s ss k t in
+  rows_are : (ss : List Size) → list_all test ss ≡ true → among w ss ≡ true → take w (drop (rows_before w (widths ss)) (flat v ss)) ≡ v (find w ss)
+  rows_are [] t h = absurd (false≢true h)
+  rows_are (s ∷ ss) t h =
+      let (here, rest) = and_parts (test s) (list_all test ss) t in
+      let l = long s (test-sound s here) in
       by_cases (eqb s.W w)
       (λ e. rw e (take_at (v s) (flat v ss) w (l ∙ eqb-true s.W w e)))
-      (λ n. rw (n, drop_past (v s) (flat v ss) s.W (rows_before w (widths ss)) l) (rows_are ss (suc k) (right_true (test s) _ t) (rw n at h)))
+      (λ n. rw (n, drop_past (v s) (flat v ss) s.W (rows_before w (widths ss)) l) (rows_are ss rest (rw n at h)))
 
 -- the part of a table from `start` on that is the size's vector, as the code cuts it out
 pub record Part (start w : ℕ) (table v : List ℕ) : Type 0 where
@@ -81,12 +81,7 @@ unfolding is_size size_of
 part_of v long w h l =
     let start = rows_before w (widths sizes) in
     let e : start + w - start ≡ w = omega arith in
-    record { inside = rows_inside v long w sizes 0 tested h; is = rw e (rows_are v long w sizes 0 tested h); long = l }
-
--- all rows
-total : length (flat (λ s. s.α) sizes) ≡ 5367
-unfolding sizes
-total = refl
+    record { inside = rows_inside v long w sizes tested h; is = rw e (rows_are v long w sizes tested h); long = l }
 
 module _ (w : ℕ) (h : is_size w ≡ true) where
   α-part : Part (rows_before w (widths sizes)) w (flat (λ s. s.α) sizes) (size_of w).α
@@ -94,9 +89,6 @@ module _ (w : ℕ) (h : is_size w ≡ true) where
 
   β-part : Part (rows_before w (widths sizes)) w (flat (λ s. s.β) sizes) (size_of w).β
   β-part = part_of (λ s. s.β) (λ s p. p.vectors.long ∙ p.rows) w h (β-rows w h)
-
-  pub rows_fit : rows_before w (widths sizes) < 2 ^ 64
-  rows_fit = omega (arith, α-part.inside, total)
 
   -- in the tables that are lent
   module _ {ws xs ys : List ℕ} (t : Tables ws xs ys) {start : ℕ} (e : start ≡ rows_before w ws) where

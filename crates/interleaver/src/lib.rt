@@ -46,7 +46,8 @@ pub fn interleave(format: u64, position: UpperPosition) -> Result<InterleavedPos
     Ok(permute(SizeVectors::of(record.w), position))
 }
 
-// The interleaved position by equation A-1, over any two vectors.
+// The interleaved position by equation A-1, over any two vectors: so their ranges are asked. It divides, for one position: the table of W × bank that a
+// `Permutation` makes would cost the call 17 times as long.
 fn permute(vectors: SizeVectors, position: UpperPosition) -> InterleavedPosition
     requires ranges { Vectors vectors.alpha.now vectors.beta.now }
     requires position_bound { position.0 < M * length vectors.alpha.now }

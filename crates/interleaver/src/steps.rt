@@ -27,7 +27,7 @@ pub struct Permutation<'a> {
 }
 
 impl<'a> Permutation<'a> {
-    // That of two vectors.
+    // That of any two vectors: so their ranges are asked.
     pub fn over(alpha: &'a [u16], beta: &'a [u8]) -> Permutation<'a>
         requires { Vectors alpha.now beta.now × (0 < length alpha.now) }
         ensures alpha_value { result.alpha.now ≡ alpha.now }

@@ -1,13 +1,6 @@
 -- The table has W × bank modulo P, so that the row's α added to it is the interleaved position but for multiples of P.
-use Prim.Native.Nat.{◌+◌}
-use native.Mathlib.Omega.{arith}
-use Rattle.interleaver.proofs.Walks.{residue_in, entry_low}
+use Rattle.interleaver.proofs.Walks.{residue_in}
 use Rattle.interleaver.proofs.steps.Permutation.residue_of.Goals as goal
-
-pub returns-clause-low : goal.returns-clause-low
-returns-clause-low c P some m =
-    let at = c.args.place in
-    omega (arith, c.looked_up.ensures, entry_low m some (at.column + at.shift) (omega (arith, at.column_low, at.shift_low)))
 
 pub returns-clause-leaves : goal.returns-clause-leaves
 returns-clause-leaves c P row m of =
