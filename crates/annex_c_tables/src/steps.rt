@@ -50,6 +50,7 @@ struct Place {
 }
 
 // Where the size with W = w stands.
+#[tactic(auto, using(bits::proofs::Places::place_here, bits::proofs::Places::place_later, bits::proofs::Places::place_end, crate::proofs::Flats::rows_next))]
 fn locate(widths: &[usize], w: usize) -> Place
     requires { rows_before w widths.now < 2 ^ 64 }
     ensures sizes_value { result.sizes ≡ place w widths.now }

@@ -12,7 +12,7 @@ use Rattle.coder.specs.Coder.{state_in}
 use Rattle.inner.specs.declared.parameters.Parameters.{Parameters}
 use Rattle.inner.proofs.Reading.{end-next}
 use Rattle.inner.proofs.Tables.{size, π-is, π-low}
-use Rattle.inner.proofs.Turns.{going_rooms, going_turn, counter_low}
+use Rattle.inner.proofs.Turns.{going_turn, counter_low}
 use Rattle.inner.proofs.steps.Progress.stretch.Goals.{In-loop-walk}
 use Rattle.inner.proofs.steps.Progress.stretch.Goals as goal
 
@@ -48,14 +48,6 @@ place-place-requires c =
     let t = (goal.at.place-place-requires c).In-loop-walk in
     (column t, row t)
 
-pub position_of-position-requires : goal.position_of-position-requires
-position_of-position-requires c = (_, c.place-place.ensures.1)
-
-pub mark_of-mark-requires : goal.mark_of-mark-requires
-mark_of-mark-requires c =
-    let of = c.place-place.ensures.1 in
-    rw of.address-is (c.args.parameters.now.permutation.ranges.α_range _ of.row_low)
-
 pub bounds-work-number : goal.bounds-work-number
 bounds-work-number c =
     let t = (goal.at.bounds-work-number c).In-loop-walk in
@@ -64,19 +56,6 @@ bounds-work-number c =
     let low = π-low p c.loop-walk.walk.position.0 (below t) in
     let read = c.position_of-position.ensures _ at.1 ∙ π-is p _ ∙ here t _ at.0 in
     omega (arith, c.number.ensures, read, low, c.requires.lent.outer-bits)
-
-pub turn-coder-requires : goal.turn-coder-requires
-turn-coder-requires c =
-    let p = c.args.parameters.now in
-    let f = p.format.number in
-    let sound = format-sound f p.format.listed in
-    let rooms = going_rooms (format_of f) (π f) c.args.work.now c.loop-walk.walk.position.0 c.loop-walk.coder c.loop-walk.invariant.4 c.requires.lent.room in
-    rw p.total_is (
-      c.mark_of-mark.ensures.low,
-      rooms.0,
-      rooms.1,
-      omega (arith, c.loop-walk.invariant.3, sound.banks, sound.widest),
-    )
 
 pub loop-walk-preserved : goal.loop-walk-preserved
 loop-walk-preserved c =
@@ -98,13 +77,6 @@ loop-walk-preserved c =
       counter_low r.i r.delta l.coder.counter (omega (arith, (format-sound f p.format.listed).deletes)) l.invariant.3,
       going_turn r (π f) work i l.coder l.invariant.4 c.mark_of-mark.result _ (below t) bit marked,
       end-next (π f) work c.args.to i (state_in l.coder) c.loop-walk-test.true bit ∙ l.invariant.5,
-    )
-
-pub down-walk-requires : goal.down-walk-requires
-down-walk-requires c =
-    let in_column = c.loop-walk.invariant.1 in (
-      omega (arith, in_column.position-is),
-      omega (arith, inside (goal.at.down-walk-requires c).In-loop-walk, c.args.parameters.now.permutation.ranges.narrow),
     )
 
 pub carry-requires : goal.carry-requires
