@@ -14,10 +14,6 @@ use Rattle.entries.proofs.steps.holds.Goals as goal
 entries : (c : After-record-total) → c.record-total.result.i ≤ length c.args.memory.now
 entries c = omega (arith, ap (λ (r : Format). r.i) c.record-total.ensures, c.requires)
 
-pub slice_bounds-compare-end : goal.slice_bounds-compare-end
-slice_bounds-compare-end c =
-    sym (length-take-le _ _ (entries (goal.at.slice_bounds-compare-end c).After-record-total))
-
 pub compare-requires : goal.compare-requires
 compare-requires c =
     let v = c.of_format.ensures in
