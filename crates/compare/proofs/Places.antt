@@ -1,27 +1,23 @@
--- How the count of bits, the first place that differs and the number of those that do go on from one place of two lists to the next.
-use mathlib.Core.Path.{◌≡◌, refl}
+-- The count of bits over two lists, and how the first place that differs and the number of those that do go on from one place to the next.
+use mathlib.Core.Path.{◌≡◌, refl, ap, ◌∙◌}
 use mathlib.Core.List.{List, [], ◌∷◌}
-use mathlib.Core.Logic.{◌⊎◌, inl, inr}
 use Prim.Native.Nat.{ℕ, zero-le, ◌+◌, ◌≤◌, ◌<◌}
 use native.Mathlib.Omega.{arith}
 use borrow.Author.Tests.{eq-eqb, ne_eqb}
 use lib.Dec.{eqb}
 use lib.ListN.{length, get_or, drop, drop_of_length-le}
+use Rattle.std.specs.List.{sum_by, zip}
+use Rattle.std.proofs.lemmas.List.Sums.{sum_by-cons}
 use Rattle.bits.proofs.Lists.{drop-next}
 use Rattle.bits.proofs.Cases.{by_cases}
 use Rattle.compare.specs.Comparison.{apart, differing, differing_bits, first_place}
 
-pub bits-next : (m x y : ℕ) {a b : List ℕ} (more-a more-b : List ℕ) → a ≡ x ∷ more-a → b ≡ y ∷ more-b
-    → differing_bits m a b ≡ apart m x y + differing_bits m more-a more-b
+-- added over the pairs of the two lists
+pub bits-zipped : (m : ℕ) (a b : List ℕ) → sum_by (λ (p : ℕ × ℕ). apart m p.0 p.1) (zip a b) ≡ differing_bits m a b
 unfolding differing_bits
-bits-next m x y more-a more-b p q = rw (p, q)
-
-pub bits-end : (m : ℕ) (a b : List ℕ) → (length a ≡ 0) ⊎ (length b ≡ 0) → differing_bits m a b ≡ 0
-unfolding differing_bits
-bits-end m [] b none = refl
-bits-end m (x ∷ a) [] none = refl
-bits-end m (x ∷ a) (y ∷ b) (inl none) = absurd (omega arith)
-bits-end m (x ∷ a) (y ∷ b) (inr none) = absurd (omega arith)
+bits-zipped m [] b = refl
+bits-zipped m (x ∷ a) [] = refl
+bits-zipped m (x ∷ a) (y ∷ b) = sum_by-cons (λ (p : ℕ × ℕ). apart m p.0 p.1) (x, y) (zip a b) ∙ ap (λ (n : ℕ). apart m x y + n) (bits-zipped m a b)
 
 -- whether the labels of a pair are unequal
 pub nowhere-first : (a b : List ℕ) → length a ≡ length b → differing a b ≡ 0 → length a ≤ first_place a b

@@ -1,10 +1,11 @@
 // Two label lists held against each other (document 01: the tally; document 02, L2: it counts bits).
 #![tactic(auto)]
 
-ghost use Rattle.std.specs.Prelude.{◌≡◌, ◌<◌, length, MatchOption};
+ghost use Rattle.std.specs.Prelude.{◌≡◌, ◌≤◌, ◌<◌, length, MatchOption};
+ghost use Rattle.std.specs.List.{sum_by, zip};
 ghost use Rattle.bits.specs.Checks.{number_of};
 ghost use Rattle.acm.specs.Formats.{symbols};
-ghost use Rattle.compare.specs.Comparison.{answer_of, compared, compare_number, apart, differing, differing_bits, first_place};
+ghost use Rattle.compare.specs.Comparison.{answer_of, compared, compare_number, apart, differing, first_place};
 
 use acm::{AcmFormat, SYMBOLS};
 use bits::Refusal;
@@ -48,19 +49,18 @@ fn check_compare(format: u64, a: &[u8], b: &[u8]) -> Result<(), Refusal>
 
 // The bits in which the bytes of two lists differ, added over the places.
 fn count_bits(a: &[u8], b: &[u8]) -> usize
-    requires { (length a.now ≡ symbols) × (length b.now ≡ symbols) }
-    ensures { result ≡ differing_bits 8 a.now b.now }
+    requires { length a.now ≤ symbols }
+    ensures { result ≡ sum_by (λ p. apart 8 p.0 p.1) (zip a.now b.now) }
 {
-    let mut count: u32 = 0;
-    for (&x, &y) in a.iter().zip(b) {
-        count += bits_apart(x, y);
-    }
+    let count: u32 = a.iter().zip(b).map(|(&x, &y)| bits_apart(x, y)).sum();
+    // std has no From<u32> for usize.
     count as usize
 }
 
 // The number of bits in which two bytes differ.
 fn bits_apart(x: u8, y: u8) -> u32
-    ensures { result ≡ apart 8 x y }
+    ensures value { result ≡ apart 8 x y }
+    ensures few { result ≤ 8 }
 {
     (x ^ y).count_ones()
 }

@@ -7,7 +7,7 @@ use Rattle.bits.specs.Checks.{passed}
 use Rattle.compare.specs.Comparison.{compare_number, differing}
 use Rattle.compare.proofs.Checked.{ComparePassed, compare_passed}
 use Rattle.compare.proofs.Laws.{byte_bits}
-use Rattle.compare.proofs.Places.{nowhere-first}
+use Rattle.compare.proofs.Places.{bits-zipped, nowhere-first}
 use Rattle.compare.proofs.compare.Goals.{In_ok-check_compare}
 use Rattle.compare.proofs.compare.Goals as goal
 
@@ -30,8 +30,7 @@ returns-in_default c =
 
 pub count_bits-count-requires : goal.count_bits-count-requires
 count_bits-count-requires c =
-    let ok = fits (goal.at.count_bits-count-requires c).In_ok-check_compare in
-    (ok.long_a, ok.long_b)
+    omega (arith, (fits (goal.at.count_bits-count-requires c).In_ok-check_compare).long_a)
 
 pub returns : goal.returns
 returns c =
@@ -39,4 +38,4 @@ returns c =
     let p = passes ok in
     let (first, inside) = c.in-Some.ensures in
     let some : differing c.args.a.now c.args.b.now ≡ 0 → ⊥ = λ z. omega (arith, nowhere-first _ _ (long ok) z, first, inside) in
-    simp (eq-eqb _ _ p, ne_eqb _ _ some, first, c.count_bits-count.ensures ∙ byte_bits _ _ _ p)
+    simp (eq-eqb _ _ p, ne_eqb _ _ some, first, c.count_bits-count.ensures ∙ bits-zipped 8 c.args.a.now c.args.b.now ∙ byte_bits _ _ _ p)
