@@ -12,7 +12,7 @@ use Rattle.bits.proofs.Fill.{sets-front, sets-append}
 use Rattle.header.specs.Descriptor.{pilots_on}
 use Rattle.header.specs.Header.{header, header_length}
 use Rattle.header.proofs.Headers.{header_length_lem}
-use Rattle.pilots.specs.Pilots.{piloted_length, with_pilots}
+use Rattle.pilots.specs.Pilots.{with_pilots}
 use Rattle.pilots.proofs.Inserted.{with_length}
 use Rattle.framing.specs.Frame.{body, frame, frame_labels, frame_length}
 
@@ -36,18 +36,10 @@ frame-stored f pilots labels out first slots all many room a e b =
     ∙ sets-front (frame f pilots labels) out (omega (arith, n, room))
     ∙ ap (λ (k : ℕ). frame f pilots labels ++ drop k out) n
 
--- the two choices: what is stored behind the header, and the room for it
+-- the two choices: what is stored behind the header
 module _ (pilots : ℕ) (labels : List ℕ) where
-  module _ (on : pilots ≡ pilots_on) where
-    pub body-on : with_pilots labels ≡ body pilots labels
-    body-on = rw (eq-eqb _ _ on)
+  pub body-on : pilots ≡ pilots_on → with_pilots labels ≡ body pilots labels
+  body-on on = rw (eq-eqb _ _ on)
 
-    pub room-on : (room : ℕ) → length labels ≡ frame_labels → frame_length pilots ≤ room → header_length + piloted_length (length labels) ≤ room
-    room-on room many h = rw many (rw (eq-eqb _ _ on) at h)
-
-  module _ (off : pilots ≡ pilots_on → ⊥) where
-    pub body_off : labels ≡ body pilots labels
-    body_off = rw (ne_eqb _ _ off)
-
-    pub room_off : (room : ℕ) → length labels ≡ frame_labels → frame_length pilots ≤ room → header_length + length labels ≤ room
-    room_off room many h = rw many (rw (ne_eqb _ _ off) at h)
+  pub body_off : (pilots ≡ pilots_on → ⊥) → labels ≡ body pilots labels
+  body_off off = rw (ne_eqb _ _ off)

@@ -45,7 +45,7 @@ pub fn frame(format: u64, pilots: u64, labels: &[u8], out: &mut [u16]) -> Result
 #[tactic(auto, using(std::proofs::lemmas::Bool::Decides::nat_tests), unfolding(crate::specs::Calls::frame_number))]
 fn check_frame(format: u64, pilots: u64, labels: &[u8], room: usize) -> Result<AcmFormat, Refusal>
     ensures number { number_of result ≡ frame_number format pilots labels.now room }
-    ensures same { IfOk result (λ f. f.number ≡ format) }
+    ensures known { IfOk result (λ f. f.number ≡ format) }
 {
     let format = AcmFormat::try_from(format)?;
     if PILOTS_ON < pilots {
@@ -91,10 +91,7 @@ fn put_frame(format: AcmFormat, pilots: u64, labels: &[u8], out: &mut [u16])
 pub fn section(labels: &[u8], place: u64) -> &[u8]
     ensures { result.now ≡ section_labels labels.now place }
 {
-    match try_section(labels, place) {
-        Ok(part) => part,
-        Err(_) => &labels[..0],
-    }
+    try_section(labels, place).unwrap_or(&labels[..0])
 }
 
 // The same, or the check that fails.
@@ -107,6 +104,7 @@ pub fn try_section(labels: &[u8], place: u64) -> Result<&[u8], Refusal>
     if labels.len() != FRAME_LABELS {
         return Err(Refusal::Length);
     }
+    // std has no From between u64 and usize.
     if SECTIONS as u64 <= place {
         return Err(Refusal::Place);
     }

@@ -67,6 +67,7 @@ fn add_rows(bits: u64, rows: &[u64]) -> u64
     ensures { bits_of word_length result ≡ add_rows (bits_of word_length 0) (bits_of (length rows.now) bits) (map (bits_of word_length) rows.now) }
 {
     let mut word = 0;
+    // By index: the bit's weight counts from the last row on, and a range of weights zipped with the rows says it no plainer.
     for (i, &row) in rows.iter().enumerate() {
         if bit(bits, rows.len() - 1 - i) == 1 {
             word ^= row;
@@ -80,6 +81,7 @@ fn put_words(words: &[u64], out: &mut [u16])
     requires { word_length * length words.now ≤ length out.old }
     ensures { out.new ≡ sets out.old 0 (header_slots (unpacked word_length words.now)) }
 {
+    // By index: of what is written through chunks of out the proof knows the length alone.
     for (i, &word) in words.iter().enumerate() {
         put_word(word, out, WORD_LENGTH * i);
     }
@@ -90,8 +92,8 @@ fn put_word(word: u64, out: &mut [u16], at: usize)
     requires { at + word_length ≤ length out.old }
     ensures { out.new ≡ sets out.old at (header_slots (bits_of word_length word)) }
 {
-    for k in 0..WORD_LENGTH {
-        out[at + k] = header_code(bit(word, WORD_LENGTH - 1 - k));
+    for (k, slot) in out[at..at + WORD_LENGTH].iter_mut().enumerate() {
+        *slot = header_code(bit(word, WORD_LENGTH - 1 - k));
     }
 }
 
@@ -103,7 +105,7 @@ fn bit(word: u64, weight: usize) -> u64
     (word >> weight) % 2
 }
 
-// The slot of a bit.
+// The slot of a bit. No `From`: a slot and a bit are plain numbers, as the frame that callers in C get has them.
 fn header_code(bit: u64) -> u16
     ensures { result ≡ header_code bit }
 {

@@ -15,11 +15,6 @@ pub record Chunked (out₀ : List ℕ) (at : ℕ) (labels out : List ℕ) (i siz
   pub count : 0 < length rest → subsection_labels * i + length rest ≡ length labels
   pub left : sets out (at + subsection_length * i) (with_pilots rest) ≡ sets out₀ at (with_pilots labels)
 
-pub chunked_start : (out₀ : List ℕ) (at : ℕ) (labels : List ℕ) (size : ℕ) → size ≡ subsection_labels → Chunked out₀ at labels out₀ 0 size labels
-chunked_start out₀ at labels size e =
-    let z : at + subsection_length * 0 ≡ at = omega arith in
-    record { whole = e; count = λ h. omega arith; left = rw z }
-
 -- one chunk more
 module _ {out₀ : List ℕ} {at : ℕ} {labels out : List ℕ} {i size : ℕ} {rest : List ℕ} (chunked : Chunked out₀ at labels out i size rest)
     (part more : List ℕ) (split : rest ≡ part ++ more) (long : length part ≡ min size (length rest)) (some : 0 < length rest) where

@@ -18,6 +18,7 @@ pub fn put(labels: &[u8], out: &mut [u16], at: usize)
     requires { at + piloted_length (length labels.now) ≤ length out.old }
     ensures { out.new ≡ sets out.old at (with_pilots labels.now) }
 {
+    // By index: of what is written through chunks of out the proof knows the length alone.
     for (i, part) in labels.chunks(SUBSECTION_LABELS).enumerate() {
         put_subsection(part, out, at + SUBSECTION_LENGTH * i);
     }
@@ -48,6 +49,7 @@ pub fn put_labels(labels: &[u8], out: &mut [u16], at: usize)
     requires { at + length labels.now ≤ length out.old }
     ensures { out.new ≡ sets out.old at labels.now }
 {
+    // By index: of what is written through `iter_mut` beside another iterator the proof knows the length alone.
     for (i, &label) in labels.iter().enumerate() {
         out[at + i] = u16::from(label);
     }

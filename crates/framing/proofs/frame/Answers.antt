@@ -20,4 +20,4 @@ pub returns-clause-output : goal.returns-clause-output
 unfolding frame_output
 returns-clause-output c =
     let e = c.in_ok-format.ensures in
-    rw e.same at c.put_frame.ensures ∙ when_passed _ _ _ (sym e.number)
+    rw e.known at c.put_frame.ensures ∙ when_passed _ _ _ (sym e.number)

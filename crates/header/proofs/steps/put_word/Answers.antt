@@ -1,11 +1,44 @@
-use Rattle.bits.proofs.Fill.{fill_next, fill_end}
+use Rattle.std.proofs.Common.{◌≡◌, ℕ, ◌+◌, ◌-◌, ◌≤◌, ◌<◌, List, [], length, take, drop, length-drop, ◌∙◌, arith}
+use lib.ListN.{drop_of_length-le, length-map}
+use lib.Seq.{length-take-le}
+use borrow.Rule.Slice.PartMut.{put_mid}
+use Rattle.std.proofs.lemmas.List.{append-nil}
+use Rattle.std.proofs.lemmas.List.Edits.{sets}
+use Rattle.bits.specs.Words.{bits_of}
+use Rattle.bits.proofs.Fill.{Left, left_as, left_end, left_start, left_store}
+use Rattle.bits.proofs.Parts.{sets_of_part}
+use Rattle.bits.proofs.Words.{length-bits}
+use Rattle.header.specs.Header.{header_code, header_slots}
+use Rattle.header.specs.Words.{word_length}
 use Rattle.header.proofs.Words.{slots_next, slots-none}
 use Rattle.header.proofs.steps.put_word.Goals as goal
 
+part-long : (at : ℕ) (out : List ℕ) → at + word_length ≤ length out → length (take (at + word_length - at) (drop at out)) ≡ word_length
+part-long at out room =
+    let e : at + word_length - at ≡ word_length = omega arith in
+    rw e (length-take-le word_length (drop at out) (omega (arith, length-drop at out)))
+
+-- a part whose slots are all stored
+stored : (at word k : ℕ) (out items : List ℕ) → at + word_length ≤ length out → word_length ≤ k
+    → Left (take (at + word_length - at) (drop at out)) 0 (header_slots (bits_of word_length word)) items k (header_slots (bits_of (word_length - k) word))
+    → put_mid at (at + word_length - at) out items ≡ sets out at (header_slots (bits_of word_length word))
+stored at word k out items room done l =
+    let ws = header_slots (bits_of word_length word) in
+    let part = take (at + word_length - at) (drop at out) in
+    let long : length ws ≡ word_length = length-map (bits_of word_length word) header_code ∙ length-bits word_length word in
+    let none : drop (length ws) part ≡ [] = drop_of_length-le part (omega (arith, long, part-long at out room)) in
+    let is : items ≡ ws = left_end (omega (arith, long, part-long at out room)) (left_as (slots-none k word done) l) ∙ rw none (append-nil ws) in
+    rw is (sets_of_part at (at + word_length - at) out ws (omega (arith, long)) (omega arith))
+
+pub loop-k-init : goal.loop-k-init
+loop-k-init c = left_start _ 0 _
+
 pub loop-k-preserved : goal.loop-k-preserved
 loop-k-preserved c =
-    let e = slots_next _ _ _ _ c.loop-k-test.true c.header_code.ensures c.bit.ensures in
-    fill_next _ e c.loop-k.invariant
+    let more : c.loop-k.k < word_length = omega (arith, part-long c.args.at c.args.out.now c.requires) in
+    left_store (left_as (slots_next _ _ _ _ more c.header_code.ensures c.bit.ensures) c.loop-k.invariant)
 
 pub returns : goal.returns
-returns c = fill_end (slots-none _ _ c.loop-k-test.false) c.loop-k.invariant
+returns c =
+    let a = c.args in
+    stored a.at a.word _ a.out.now _ c.requires (omega (arith, part-long a.at a.out.now c.requires)) c.loop-k.invariant
