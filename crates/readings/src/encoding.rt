@@ -12,14 +12,19 @@ const N: usize = 16200;
 // A block of zeros but for its last bit, and buffers of so many bytes. The row has the number, and of each buffer how many of the bytes that the
 // call writes it changed, and how many behind them.
 pub(crate) fn encode(rt: &impl Print, mut row: Row) -> io::Result<()> {
+    let format = row.number();
+    let bits = row.number();
+    let last = row.number();
+    let work_length = row.number();
+    let out_length = row.number();
     let mut block = buffer(0);
     let mut work = buffer(UNTOUCHED);
     let mut out = buffer(UNTOUCHED);
     let answer = encoder::encode(
-        row.number(),
-        ending_in(&mut block, row.number(), row.number()),
-        front_mut(&mut work, row.number()),
-        front_mut(&mut out, row.number()),
+        format,
+        ending_in(&mut block, bits, last),
+        front_mut(&mut work, work_length),
+        front_mut(&mut out, out_length),
     );
     print_check(rt, answer)?;
     print_changed(rt, &work, I)?;
@@ -27,12 +32,16 @@ pub(crate) fn encode(rt: &impl Print, mut row: Row) -> io::Result<()> {
 }
 
 pub(crate) fn labels(rt: &impl Print, mut row: Row) -> io::Result<()> {
+    let format = row.number();
+    let bits = row.number();
+    let last = row.number();
+    let out_length = row.number();
     let mut codeword = buffer(0);
     let mut out = buffer(UNTOUCHED);
     let answer = encoder::labels(
-        row.number(),
-        ending_in(&mut codeword, row.number(), row.number()),
-        front_mut(&mut out, row.number()),
+        format,
+        ending_in(&mut codeword, bits, last),
+        front_mut(&mut out, out_length),
     );
     print_check(rt, answer)?;
     print_changed(rt, &out, acm::SYMBOLS)

@@ -8,15 +8,18 @@ use testkit::{UNTOUCHED, buffer, front, front_mut};
 
 // Labels 0 but for the last, and a buffer of so many slots.
 pub(crate) fn frame(rt: &impl Print, mut row: Row) -> io::Result<()> {
-    let mut labels = buffer(0);
-    let mut slots = buffer(u16::from(UNTOUCHED));
     let format = row.number();
     let pilots = row.number();
+    let count = row.number();
+    let last = row.number();
+    let room = row.number();
+    let mut labels = buffer(0);
+    let mut slots = buffer(u16::from(UNTOUCHED));
     let answer = framing::frame(
         format,
         pilots,
-        ending_in(&mut labels, row.number(), row.number()),
-        front_mut(&mut slots, row.number()),
+        ending_in(&mut labels, count, last),
+        front_mut(&mut slots, room),
     );
     print_check(rt, answer)?;
     print_changed(rt, &slots, framing::frame_length(pilots))
@@ -26,8 +29,9 @@ pub(crate) fn frame(rt: &impl Print, mut row: Row) -> io::Result<()> {
 pub(crate) fn section(rt: &impl Print, mut row: Row) -> io::Result<()> {
     let count = row.number();
     let place = row.number();
+    let one = row.number::<usize>();
     let mut labels = buffer(0);
-    if let Some(label) = labels.get_mut(row.number::<usize>()) {
+    if let Some(label) = labels.get_mut(one) {
         *label = 1;
     }
     let part = framing::try_section(front(&labels, count), place);
@@ -45,11 +49,14 @@ fn number(label: Option<&u8>) -> usize {
 // Labels 0 but for the last, in the second list another value throughout. The row has the number, 1 for the same, the bits and the first place.
 pub(crate) fn compare(rt: &impl Print, mut row: Row) -> io::Result<()> {
     let format = row.number();
+    let count_a = row.number();
+    let last_a = row.number();
+    let count_b = row.number();
+    let last_b = row.number();
     let mut a = buffer(0);
-    let a = ending_in(&mut a, row.number(), row.number());
-    let (count, last) = (row.number(), row.number());
     let mut b = buffer(row.number());
-    let b = ending_in(&mut b, count, last);
+    let a = ending_in(&mut a, count_a, last_a);
+    let b = ending_in(&mut b, count_b, last_b);
     let answer = compare::compare(format, a, b).map(|comparison| match comparison {
         Comparison::Same => [1, 0, 0],
         Comparison::Differ { count, first } => [0, count, first],

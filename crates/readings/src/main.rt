@@ -21,10 +21,7 @@ const ROOM: usize = 4096;
 
 fn main(rt: HostRuntime) -> io::Result<()> {
     let mut buffer = [0; ROOM];
-    let Ok(text) = str::from_utf8(read_full(&rt, &mut buffer)) else {
-        return Err(io::Error::from(io::ErrorKind::InvalidData));
-    };
-    run(&rt, text)?;
+    run(&rt, read_full(&rt, &mut buffer))?;
     lines::run(&rt)
 }
 
@@ -45,10 +42,16 @@ fn read_full<'a>(rt: &impl Input, buffer: &'a mut [u8]) -> &'a [u8]
     &buffer[..done]
 }
 
-fn run(rt: &impl Print, text: &str) -> io::Result<()> {
-    for line in text.lines() {
-        rt.print(line)?;
-        calls::make(rt, line)?;
+// A row ends with a line feed: what stands behind the last is printed, and no call. A row that is no text is a comment.
+fn run(rt: &impl Print, input: &[u8]) -> io::Result<()> {
+    for line in input.split_inclusive(|&byte| byte == b'\n') {
+        let Some(row) = line.strip_suffix(b"\n") else {
+            return rt.write_all(line);
+        };
+        rt.write_all(row)?;
+        if let Ok(row) = str::from_utf8(row) {
+            calls::make(rt, row)?;
+        }
         testkit::end_row(rt)?;
     }
     Ok(())
