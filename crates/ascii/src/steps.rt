@@ -10,7 +10,8 @@ pub const LINE_FEED: u8 = b'\n';
 pub const ZERO: u8 = b'0';
 
 // Words, from the place at on; answers the place behind them.
-// Buffer and place stay two parameters: a struct that lends the buffer says no less in its contracts, and its callers have to take it apart.
+// Buffer and place stay two parameters: a struct of both has the same clauses and one fact more, that the place is inside, for two callers that
+// put two texts each.
 #[tactic(auto, using(bits::proofs::Parts::sets_of_part))]
 pub fn put(words: &[u8], out: &mut [u8], at: usize) -> usize
     requires { at + length words.now ≤ length out.old }
@@ -51,6 +52,7 @@ fn put_decimal(n: u64, out: &mut [u8], at: usize) -> usize
     let end = at + digits(n);
     let mut rest = n;
     for i in (at..end).rev() {
+        // A digit loses nothing.
         out[i] = ZERO + (rest % 10) as u8;
         rest /= 10;
     }
@@ -61,5 +63,6 @@ fn put_decimal(n: u64, out: &mut [u8], at: usize) -> usize
 fn digits(n: u64) -> usize
     ensures { result ≡ length (decimal n) }
 {
+    // std has no From<u32> for usize.
     n.checked_ilog10().unwrap_or(0) as usize + 1
 }

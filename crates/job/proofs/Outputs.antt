@@ -57,10 +57,6 @@ pub output_refusal : (text : List ℕ) {n : ℕ} → job_number text ≡ n → (
 unfolding output
 output_refusal text {n} e no-pass = rw (e, ne_eqb n passed no-pass)
 
--- what a text at the front of a buffer leaves for a caller to show
-pub front-inside : (text rest : List ℕ) {out : List ℕ} {n : ℕ} → n ≡ length text → out ≡ text ++ rest → n ≤ length out
-front-inside text rest e is = omega (arith, ap length is, length-append text rest)
-
 -- a text that is too long for a line is refused whatever stands behind its first bytes
 malformed : (text : List ℕ) → longest_line < length text → output text ≡ refusal_text bad_line
 unfolding output job_number

@@ -44,9 +44,6 @@ count_at i zero k h = absurd (omega arith)
 count_at i (suc n) zero h = omega arith
 count_at i (suc n) (suc k) h = count_at (suc i) n k (omega arith) ∙ omega arith
 
-pub spread_length : (words : List ℕ) → Spread words → length words ≡ 256
-spread_length words table = sym (length-map words (bytes_of octet_length)) ∙ ap length table
-
 pub spread_at : (words : List ℕ) → Spread words → (x : ℕ) → x < 256 → bytes_of octet_length (get_or words x 0) ≡ bits_of octet_length x
 unfolding bytes_of bits_of
 spread_at words table x h =

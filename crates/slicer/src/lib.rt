@@ -114,7 +114,7 @@ impl Slicer {
     // The slicer's format, if all checks of block hold.
     fn check_block(self, memory: &[u8], room: usize) -> Result<AcmFormat, Refusal>
         ensures number { number_of result ≡ block_number self memory.now room }
-        ensures same { IfOk result (λ f. f.number ≡ self.format) }
+        ensures known { IfOk result (λ f. f.number ≡ self.format) }
     {
         let format = AcmFormat::try_from(self.format)?;
         waiting::check(self.waiting, memory)?;
@@ -148,7 +148,7 @@ impl Slicer {
     // The commanded format, if all checks of change, and of look, hold.
     fn check_change(self, format: u64) -> Result<AcmFormat, Refusal>
         ensures number { number_of result ≡ change_number self format }
-        ensures same { IfOk result (λ f. f.number ≡ format) }
+        ensures known { IfOk result (λ f. f.number ≡ format) }
     {
         AcmFormat::try_from(self.format)?;
         let format = AcmFormat::try_from(format)?;

@@ -20,7 +20,7 @@ pub fn put(frame: &[u8], out: &mut [u8], at: usize)
     requires { at + (marker_length + octet_length * length frame.now) ≤ length out.old }
     ensures { out.new ≡ sets out.old at (sync_marked frame.now) }
 {
-    // Copied once a call: lent as a `static`, from where it lies, it makes a long frame take 0.85 ns an octet in the place of 0.70.
+    // Copied once a call: lent as a `static`, from where it lies, it makes a long frame take 0.85 ns an octet, not 0.70.
     let spread = tables::SPREAD;
     steps::put_octets(&MARKER, &UNMASKED, &spread, out, at);
     steps::put_frame(frame, &tables::MASKS, &spread, out, at + MARKER_LENGTH);
