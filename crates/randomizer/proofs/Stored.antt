@@ -9,7 +9,7 @@ use borrow.Rule.Slice.PartMut.{put_mid}
 use borrow.Author.Tests.{leb-true, leb-false}
 use lib.Bits.{bit_xor}
 use lib.Dec.{leb}
-use lib.ListN.{length, get_or, drop, drop_of_length-le, length-append, length-map, get_or-map}
+use lib.ListN.{length, get_or, drop, drop_of_length-le, length-append, get_or-map}
 use lib.Seq.{sets}
 use Rattle.std.specs.Int.{w64, byte_at, bytes_low_first, to_le_bytes}
 use Rattle.bits.specs.Words.{bits_of, unpacked}

@@ -4,7 +4,7 @@ use mathlib.Core.Bool.{true}
 use mathlib.Core.List.{List, [], ◌∷◌}
 use Prim.Native.Nat.{ℕ, zero, suc, ◌+◌, ◌≤◌, ◌<◌}
 use native.Mathlib.Omega.{arith}
-use borrow.Author.Tests.{le-leb, eq-eqb, ne_eqb}
+use borrow.Author.Tests.{le-leb, eq-eqb}
 use lib.Dec.{eqb}
 use lib.ListN.{length, take, set, replicate, length-replicate, length-set}
 use lib.Seq.{length-take-le, take_at}
@@ -23,20 +23,6 @@ use Rattle.encoder.specs.Calls.{encode_number, encode_output}
 use Rattle.encoder.specs.Codeword.{codeword}
 use Rattle.encoder.proofs.Codewords.{codeword-length}
 use Rattle.row.specs.Row.{block, ones}
-
--- the three patterns
-module _ (p K : ℕ) where
-  pub block-zeros : p ≡ 0 → replicate K 0 ≡ block p K
-  unfolding block
-  block-zeros z = rw (eq-eqb p 0 z)
-
-  pub block-ones : p ≡ 1 → replicate K 1 ≡ block p K
-  unfolding block
-  block-ones e = rw (ne_eqb p 0 (λ z. omega arith), eq-eqb p 1 e)
-
-  pub block-single : (p ≡ 0 → ⊥) → (p ≡ 1 → ⊥) → set (replicate K 0) 0 1 ≡ block p K
-  unfolding block
-  block-single z e = rw (ne_eqb p 0 z, ne_eqb p 1 e)
 
 single-bits : (n : ℕ) → all_bits (set (replicate n 0) 0 1) ≡ true
 single-bits zero = refl

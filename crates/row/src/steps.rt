@@ -37,6 +37,7 @@ pub fn make(format: AcmFormat, pattern: u64) -> Row
 }
 
 // The number of ones in the codeword of a pattern's block.
+#[tactic(auto, using(acm::proofs::Laws::within))]
 fn codeword_ones(format: AcmFormat, pattern: u64) -> usize
     ensures { result ≡ ones (codeword_of format.number (block_of pattern (format_of format.number).k)) }
 {
@@ -67,6 +68,7 @@ fn encoded_ones(
 }
 
 // The block of a pattern, to the whole of out.
+#[tactic(auto, unfolding(crate::specs::Row::block))]
 fn put_block(pattern: u64, out: &mut [u8])
     requires { 0 < length out.old }
     ensures { out.new ≡ block_of pattern (length out.old) }

@@ -19,9 +19,3 @@ loop-i-preserved c =
     let l = c.loop-i in
     let at = c.args.at in
     decimal-turn l.out at (l.i - 1) l.rest (l.i - 1 - at) (l.i - at) (omega arith) (omega arith) ∙ l.invariant
-
-pub returns-clause-out_after : goal.returns-clause-out_after
-returns-clause-out_after c =
-    let l = c.loop-i in
-    let none : l.i - c.args.at ≡ 0 = omega arith in
-    rw none at l.invariant

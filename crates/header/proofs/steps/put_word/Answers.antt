@@ -5,7 +5,7 @@ use borrow.Rule.Slice.PartMut.{put_mid}
 use Rattle.std.proofs.lemmas.List.{append-nil}
 use Rattle.std.proofs.lemmas.List.Edits.{sets}
 use Rattle.bits.specs.Words.{bits_of}
-use Rattle.bits.proofs.Fill.{Left, left_as, left_end, left_start, left_store}
+use Rattle.bits.proofs.Fill.{Left, left_as, left_end, left_store}
 use Rattle.bits.proofs.Parts.{sets_of_part}
 use Rattle.bits.proofs.Words.{length-bits}
 use Rattle.header.specs.Header.{header_code, header_slots}
@@ -29,9 +29,6 @@ stored at word k out items room done l =
     let none : drop (length ws) part ≡ [] = drop_of_length-le part (omega (arith, long, part-long at out room)) in
     let is : items ≡ ws = left_end (omega (arith, long, part-long at out room)) (left_as (slots-none k word done) l) ∙ rw none (append-nil ws) in
     rw is (sets_of_part at (at + word_length - at) out ws (omega (arith, long)) (omega arith))
-
-pub loop-k-init : goal.loop-k-init
-loop-k-init c = left_start _ 0 _
 
 pub loop-k-preserved : goal.loop-k-preserved
 loop-k-preserved c =
