@@ -32,6 +32,7 @@ const PILOT_FRAME_LENGTH: usize = FRAME_LENGTH
 // Checks: 1; 14, the choice is 0 or 1; 2, there are 129,600 labels; 3, each is below 2^m; 5, the output has at least 129,920 slots, with pilots
 // 133,760.
 // Afterwards so many slots of out, from the first, are the frame and the others as they were; on refusal all are.
+#[tactic(auto, using(std::proofs::lemmas::Bool::Decides::nat_tests), unfolding(crate::specs::Calls::frame_output, crate::specs::Calls::frame_number))]
 pub fn frame(format: u64, pilots: u64, labels: &[u8], out: &mut [u16]) -> Result<(), Refusal>
     ensures number { number_of result ≡ frame_number format pilots labels.now (length out.old) }
     ensures output { out.new ≡ frame_output format pilots labels.now out.old }
@@ -88,6 +89,7 @@ fn put_frame(format: AcmFormat, pilots: u64, labels: &[u8], out: &mut [u16])
 }
 
 // The codeword section at a place from 0 to 15: 8,100 of the caller's own labels, none where a check of try_section fails.
+#[tactic(auto, using(bits::proofs::Refusals::not_passed, std::proofs::lemmas::Bool::Decides::nat_tests), unfolding(crate::specs::Calls::section_labels))]
 pub fn section(labels: &[u8], place: u64) -> &[u8]
     ensures { result.now ≡ section_labels labels.now place }
 {

@@ -6,7 +6,7 @@ use lib.Seq.{sets}
 use borrow.Author.Tests.{leb-true, leb-false}
 use Rattle.bits.proofs.Cases.{by_cases}
 use Rattle.bits.proofs.Fill.{sets-append}
-use Rattle.pilots.specs.Pilots.{piloted_length, subsection_labels, subsection_length, with_pilots}
+use Rattle.pilots.specs.Pilots.{subsection_labels, subsection_length, with_pilots}
 use Rattle.pilots.proofs.Inserted.{with_append, with_length, with_rest}
 
 -- after i chunks: every one before the last is a whole sub-section
@@ -21,11 +21,8 @@ module _ {out₀ : List ℕ} {at : ℕ} {labels out : List ℕ} {i size : ℕ} {
   lengths : length rest ≡ length part + length more
   lengths = rw split (length-append part more)
 
-  pub chunk_short : length part ≤ subsection_labels
+  chunk_short : length part ≤ subsection_labels
   chunk_short = omega (arith, chunked.whole)
-
-  pub chunk_room : (room : ℕ) → at + piloted_length (length labels) ≤ room → at + subsection_length * i + piloted_length (length part) ≤ room
-  chunk_room room h = omega (arith, chunked.count some, lengths)
 
   pub chunked_turn : (new : List ℕ) (next same : ℕ) → new ≡ sets out (at + subsection_length * i) (with_pilots part) → next ≡ i + 1 → same ≡ size
       → Chunked out₀ at labels new next same more

@@ -23,11 +23,6 @@ long c = (fits c).long_a ∙ sym (fits c).long_b
 pub first_differing-requires : goal.first_differing-requires
 first_differing-requires c = long (goal.at.first_differing-requires c).In_ok-check_compare
 
-pub returns-in_default : goal.returns-in_default
-returns-in_default c =
-    let ok = (goal.at.returns-in_default c).In_ok-check_compare in
-    simp (eq-eqb _ _ (passes ok), eq-eqb _ _ c.in_default.ensures)
-
 pub count_bits-count-requires : goal.count_bits-count-requires
 count_bits-count-requires c =
     omega (arith, (fits (goal.at.count_bits-count-requires c).In_ok-check_compare).long_a)

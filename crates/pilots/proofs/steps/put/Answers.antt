@@ -1,13 +1,6 @@
-use Rattle.std.proofs.Common.{◌≡◌, arith}
-use Rattle.pilots.proofs.Turns.{chunk_room, chunk_short, chunked_end, chunked_turn}
+use Rattle.std.proofs.Common.{◌≡◌}
+use Rattle.pilots.proofs.Turns.{chunked_end, chunked_turn}
 use Rattle.pilots.proofs.steps.put.Goals as goal
-
-pub put_subsection-requires : goal.put_subsection-requires
-put_subsection-requires c =
-    let s = c.in-Some.ensures.steps in
-    let l = c.loop-i in
-    let i : c.in-Some.i ≡ l.i-iterator.count = s.1 in
-    (chunk_short l.invariant _ _ s.0.1.0 s.0.1.1 s.0.1.2, rw i (chunk_room l.invariant _ _ s.0.1.0 s.0.1.1 s.0.1.2 _ (omega arith)))
 
 pub loop-i-preserved : goal.loop-i-preserved
 loop-i-preserved c =
