@@ -1,7 +1,6 @@
 use mathlib.Core.Path.{◌≡◌, ap, ap₂, ◌∙◌}
 use mathlib.Core.List.{List}
 use Prim.Native.Nat.{ℕ, ◌%◌, ◌<◌}
-use native.Mathlib.Nat.{mod-lt}
 use native.Mathlib.Omega.{arith}
 use lib.Dec.{eqb}
 use lib.ListN.{length, get_or}
@@ -11,7 +10,7 @@ use Rattle.acm.proofs.Laws.{format-sound}
 use Rattle.interleaver.specs.Interleaver.{π}
 use Rattle.interleaver.proofs.Formats.{π-permutes}
 use Rattle.puncture.specs.Puncture.{period, pattern}
-use Rattle.puncture.proofs.Zeroed.{pattern-length, pattern-low}
+use Rattle.puncture.proofs.Zeroed.{pattern-low}
 use Rattle.inner.specs.Left.{starting}
 use Rattle.inner.proofs.Formats.{fits_whole}
 use Rattle.inner.proofs.Turns.{going_start, going_rooms, going_turn, counter_low}
@@ -45,11 +44,6 @@ loop-i-init c =
     let coder = c.start-coder.ensures.0 ∙ ap starting c.record-f.ensures in
     let fits = fits_whole f c.args.format.listed c.args.work.now in
     rw coder (fits.counter_low, going_start (format_of f) (π f) c.args.work.now c.args.out.now 0 (starting (format_of f)) fits)
-
-pub bounds-pattern-position : goal.bounds-pattern-position
-bounds-pattern-position c =
-    let low : c.number-position.result % period < period = mod-lt _ (omega arith) in
-    omega (arith, ap length c.requires.format_value.1 ∙ pattern-length _, low)
 
 pub bounds-work-position : goal.bounds-work-position
 bounds-work-position c = position-low (goal.at.bounds-work-position c).After-number-position
