@@ -1,12 +1,11 @@
-use Rattle.std.proofs.Common.{◌≡◌, ℕ, ◌+◌, ◌-◌, ◌≤◌, ◌<◌, List, [], length, take, drop, length-drop, ◌∙◌, arith}
-use lib.ListN.{drop_of_length-le, length-map}
+use Rattle.std.proofs.Common.{◌≡◌, ℕ, ◌+◌, ◌-◌, ◌≤◌, ◌<◌, List, length, take, drop, length-drop, ◌∙◌, arith}
+use lib.ListN.{length-map}
 use lib.Seq.{length-take-le}
 use borrow.Rule.Slice.PartMut.{put_mid}
-use Rattle.std.proofs.lemmas.List.{append-nil}
 use Rattle.std.proofs.lemmas.List.Edits.{sets}
 use Rattle.bits.specs.Words.{bits_of}
 use Rattle.bits.proofs.Fill.{Left, left_as, left_end, left_store}
-use Rattle.bits.proofs.Parts.{sets_of_part}
+use Rattle.bits.proofs.Parts.{sets_of_front}
 use Rattle.bits.proofs.Words.{length-bits}
 use Rattle.header.specs.Header.{header_code, header_slots}
 use Rattle.header.specs.Words.{word_length}
@@ -23,12 +22,9 @@ stored : (at word k : ℕ) (out items : List ℕ) → at + word_length ≤ lengt
     → Left (take (at + word_length - at) (drop at out)) 0 (header_slots (bits_of word_length word)) items k (header_slots (bits_of (word_length - k) word))
     → put_mid at (at + word_length - at) out items ≡ sets out at (header_slots (bits_of word_length word))
 stored at word k out items room done l =
-    let ws = header_slots (bits_of word_length word) in
-    let part = take (at + word_length - at) (drop at out) in
-    let long : length ws ≡ word_length = length-map (bits_of word_length word) header_code ∙ length-bits word_length word in
-    let none : drop (length ws) part ≡ [] = drop_of_length-le part (omega (arith, long, part-long at out room)) in
-    let is : items ≡ ws = left_end (omega (arith, long, part-long at out room)) (left_as (slots-none k word done) l) ∙ rw none (append-nil ws) in
-    rw is (sets_of_part at (at + word_length - at) out ws (omega (arith, long)) (omega arith))
+    let long : length (header_slots (bits_of word_length word)) ≡ word_length = length-map (bits_of word_length word) header_code ∙ length-bits word_length word in
+    sets_of_front at (at + word_length - at) out (header_slots (bits_of word_length word)) items (omega (arith, long)) (omega arith)
+    (left_end (omega (arith, long, part-long at out room)) (left_as (slots-none k word done) l))
 
 pub loop-k-preserved : goal.loop-k-preserved
 loop-k-preserved c =
