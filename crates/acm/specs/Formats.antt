@@ -1,4 +1,4 @@
--- The ACM formats (table 4-3; 28 to 37 by tables 3-1, 4-1 and 5-3 of 004) with their soft share (document 02, L7), and the lookup's answer.
+-- The ACM formats (table 4-3; 28 to 37 by tables 3-1, 4-1 and 5-3 of 004) with their soft share, and the lookup's answer.
 use Rattle.std.specs.Prelude.{◌≡◌, Bool, ◌&&◌, List, [], ◌∷◌, ℕ, ◌+◌, ◌-◌, ◌*◌, ◌^◌, leb, get_or, if◌then◌else◌, Result, Ok, Err}
 use Rattle.bits.specs.Checks.{check_number, passed, bad_format}
 use Rattle.bits.specs.declared.checks.Refusal.{Refusal}
@@ -114,7 +114,7 @@ most_n = 64800
 abbrev pub top_label : ℕ → ℕ
 top_label f = 2 ^ (format_of f).m - 1
 
--- an answer, as document 01 numbers it: a refusal has 0 in every other field
+-- an answer in numbers: a refusal has 0 in every other field
 pub record Answer : Type 0 where
   pub number : ℕ
   pub format : Format

@@ -2,7 +2,8 @@
 ghost use Rattle.std.specs.Prelude.{◌≡◌};
 ghost use Rattle.acm.specs.Table.{record_of};
 
-// The record of an ACM format: its line of document 01's listing, its soft share, and the rest of its line of table 4-3 or 4-1 of 004. All lengths are in bits.
+// The record of an ACM format: its line of the listing that the program formats prints, its soft share, and the rest of its line of table 4-3, or
+// of table 4-1 of 004. All lengths are in bits.
 #[derive(Clone, Copy)]
 pub struct Format {
     // the format's own number

@@ -1,5 +1,5 @@
 -- The BCH code (004, 4.3): the systematic (8191, 8139) code with the generator g(x) = g_0 + g_1 x + .. + g_52 x^52, shortened by 91 zeros.
--- Figure 4-3 draws the zeros behind the information bits; document 02, L8, puts them before, and decides.
+-- Figure 4-3 draws the zeros behind the information bits; here they stand before them, as was decided (docs/DECISIONS.md).
 use Rattle.std.specs.Prelude.{List, [], ◌∷◌, ◌++◌, reverse, ℕ, drop, replicate}
 use Rattle.bch.specs.Division.{remainder}
 

@@ -1,4 +1,4 @@
-// Reads a job line from standard input and prints its row, or the number of the check that refuses it (document 01).
+// Reads a job line from standard input and prints its row, or the number of the check that refuses it.
 #![tactic(auto)]
 
 ghost use Rattle.std.specs.Prelude.{◌≤◌, length};

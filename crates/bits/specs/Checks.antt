@@ -1,4 +1,4 @@
--- The checks of documents 01 ("Questions at the door") and 02 and their numbers; passed is the answer of a call that fails none.
+-- The checks of the calls and their numbers; passed is the answer of a call that fails none.
 use Rattle.std.specs.Prelude.{Bool, List, [], ◌∷◌, ℕ, if◌then◌else◌, Result, Ok, Err}
 use Rattle.bits.specs.declared.checks.Refusal.{Refusal}
 use Rattle.bits.specs.declared.checks.Refusal.TheVariants as refusal

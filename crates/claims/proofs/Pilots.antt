@@ -1,4 +1,4 @@
--- Document 02, L9, from the laws of header, pilots and frame.
+-- Pilots, from the laws of header, pilots and frame.
 use mathlib.Core.Path.{◌≡◌, refl, sym, ap, ◌∙◌}
 use mathlib.Core.Bool.{true}
 use mathlib.Core.List.{List, ◌++◌}

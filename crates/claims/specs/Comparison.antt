@@ -1,4 +1,4 @@
--- Document 02, L2: what the answer of a comparison says of two label lists.
+-- What the answer of a comparison says of two label lists.
 use Rattle.std.specs.Prelude.{◌≡◌, true, List, ◌↔◌, ℕ, ◌*◌, ◌≤◌, ◌<◌, length, get_or, replicate}
 use Rattle.bits.specs.Checks.{passed}
 use Rattle.bits.specs.Legal.{all_bits}

@@ -1,4 +1,4 @@
--- Document 02, L8: formats 28 to 37, by document 004.
+-- Formats 28 to 37, by 004.
 use Rattle.std.specs.Prelude.{◌≡◌, true, List, [], ◌∷◌, ◌++◌, ◌↔◌, ℕ, suc, ◌+◌, ◌-◌, ◌*◌, ◌/◌, ◌%◌, ◌^◌, ◌≤◌, ◌<◌, length, get_or, take, drop, replicate}
 use Rattle.bits.specs.Legal.{all_bits}
 use Rattle.bits.specs.Sum.{◌⊕*◌, bit}
@@ -37,7 +37,7 @@ Extends = (f : ℕ) → is_format f ≡ true → last_one_stage < f → (block :
 abbrev pub Extendable : Type 0
 Extendable = (f : ℕ) → last_one_stage < f → f ≤ last_format → (is_format f ≡ true) × Block f (replicate (format_of f).k 0) × Block f (replicate (format_of f).k 1)
 
--- up to 27 codeword and labels are what they were before L8, all of them from the trellises
+-- up to 27 codeword and labels are what they were before there were more formats, all of them from the trellises
 abbrev pub Keeps : Type 0
 Keeps =
     (f : ℕ) → is_format f ≡ true → f ≤ last_one_stage → (block : List ℕ) → Block f block

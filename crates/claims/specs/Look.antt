@@ -1,4 +1,4 @@
--- Document 02, L4: the block that follows a change of format, and the look ahead.
+-- The block that follows a change of format, and the look ahead.
 use Rattle.std.specs.Prelude.{◌≡◌, true, List, [], ◌∷◌, ◌++◌, ◌↔◌, ℕ, zero, suc, ◌≤◌, ◌<◌, length, take}
 use Rattle.bits.specs.Checks.{passed}
 use Rattle.acm.specs.Formats.{is_format, format_of}

@@ -1,4 +1,4 @@
--- Document 02, L9: pilots.
+-- Pilots.
 use Rattle.std.specs.Prelude.{◌≡◌, true, List, [], ◌∷◌, ◌++◌, ◌↔◌, ℕ, ◌+◌, ◌*◌, ◌≤◌, ◌<◌, leb, eqb, length, get_or, take, drop, replicate, if◌then◌else◌}
 use Rattle.bits.specs.Checks.{◌or_else◌, first_failed, passed, bad_format, bad_length, bad_element, short_output}
 use Rattle.bits.specs.Legal.{all_at_most}
@@ -11,7 +11,7 @@ use Rattle.framing.specs.Frame.{sections, frame_labels, frame_length, frame, sec
 use Rattle.framing.specs.Calls.{frame_number, frame_output}
 use Rattle.framing.specs.Places.{is_pilot, label_slot, without_pilots}
 
--- The call of document 01, which had no choice: its checks, and what it left in the output.
+-- The call as it was before there was a choice: its checks, and what it left in the output.
 abbrev pub number01 : ℕ → List ℕ → ℕ → ℕ
 number01 f labels room =
     first_failed
@@ -69,7 +69,7 @@ Passes =
 abbrev pub Some : Type 0
 Some = (f : ℕ) → FrameLabels f (replicate frame_labels 0)
 
--- table 5-2, and document 02's number of slots
+-- table 5-2, and the number of slots of a frame with pilots
 pub record Counts : Type 0 where
   pub subsections : symbols ≡ 15 * subsection_labels
   pub section-pilots : 15 * subsection_pilots ≡ 240

@@ -1,4 +1,4 @@
--- The marked rows of document 01, "Readings to try".
+-- Readings that the user gave to try; the program readings prints the others.
 use Rattle.std.specs.Prelude.{◌≡◌, List, [], ◌∷◌, ◌↔◌, ◌⊎◌, ℕ, ◌<◌, get_or}
 use Rattle.bits.specs.Checks.{passed}
 use Rattle.trellis.specs.Trellis.{State, zero-state, Stepped, stepped, run, ends, termination}

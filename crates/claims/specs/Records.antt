@@ -1,4 +1,4 @@
--- Document 02, L7: one record for each ACM format f, with its soft share.
+-- One record for each ACM format f, with its soft share.
 use Rattle.std.specs.Prelude.{◌≡◌, true, List, ℕ, ◌+◌, ◌*◌, ◌≤◌, length}
 use Rattle.acm.specs.Formats.{symbols, M, piece_length, formats, last_format, last_one_stage, is_format, format_of, P, N1, hard_bits, AllSoft}
 use Rattle.acm.specs.declared.table.Format.{Format}

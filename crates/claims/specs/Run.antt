@@ -1,4 +1,4 @@
--- Document 02, L5: a trellis run from any state x, and the calls for one, which take the state's number s.
+-- A trellis run from any state x, and the calls for one, which take the state's number s.
 use Rattle.std.specs.Prelude.{◌≡◌, true, List, ◌++◌, ℕ, ◌+◌, ◌*◌, ◌≤◌, ◌<◌, length, get_or, take, drop}
 use Rattle.bits.specs.Checks.{passed}
 use Rattle.bits.specs.Legal.{all_bits}

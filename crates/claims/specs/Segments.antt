@@ -1,4 +1,4 @@
--- Document 02, L6: encoding by segments (6).
+-- Encoding by segments (6).
 use Rattle.std.specs.Prelude.{◌≡◌, true, List, ℕ, ◌%◌, ◌≤◌, length, replicate}
 use Rattle.bits.specs.Joined.{joined}
 use Rattle.bits.specs.Legal.{all_bits}

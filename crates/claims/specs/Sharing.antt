@@ -1,4 +1,4 @@
--- Document 02, L10: two channels, one interleaver memory.
+-- Two channels, one interleaver memory.
 use Rattle.std.specs.Prelude.{◌≡◌, Bool, true, false, List, [], ◌∷◌, map, ◌↔◌, ℕ, ◌≤◌, ◌<◌, eqb, leb, length, get_or, replicate, if◌then◌else◌}
 use Rattle.bits.specs.Checks.{◌or_else◌, first_failed, passed, short_memory}
 use Rattle.acm.specs.Formats.{is_format, format_of}

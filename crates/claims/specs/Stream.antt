@@ -1,4 +1,4 @@
--- Document 02, L1 and L4: calls on a slicer, each given slicer and memory as the last left them.
+-- Calls on a slicer, each given slicer and memory as the last left them.
 use Rattle.std.specs.Prelude.{◌≡◌, true, List, [], ◌∷◌, ◌++◌, ◌↔◌, ℕ, ◌≤◌, ◌<◌, eqb, length, take, if◌then◌else◌}
 use Rattle.bits.specs.Checks.{passed}
 use Rattle.bits.specs.Joined.{joined}

@@ -1,4 +1,4 @@
--- Two label lists held against each other (document 01: the tally; document 02, L2: it counts bits).
+-- Two label lists held against each other: the tally of the bits in which they differ.
 use Rattle.std.specs.Prelude.{Bool, true, false, not, List, [], ◌∷◌, ℕ, suc, ◌+◌, eqb, length, if◌then◌else◌, Result, Ok, Err}
 use Rattle.bits.specs.Checks.{Check, ◌or_else◌, check_number, first_failed, passed, bad_format, bad_length, bad_element}
 use Rattle.bits.specs.declared.checks.Refusal.{Refusal}
@@ -42,7 +42,7 @@ compare_checks f a b =
 unfoldable pub compare_number : ℕ → List ℕ → List ℕ → ℕ
 compare_number f a b = first_failed (compare_checks f a b)
 
--- an answer, as document 01 numbers it
+-- an answer in numbers
 pub record Answer : Type 0 where
   pub number : ℕ
   pub same : Bool

@@ -1,4 +1,4 @@
-// Two label lists held against each other (document 01: the tally; document 02, L2: it counts bits).
+// Two label lists held against each other: the tally of the bits in which they differ.
 #![tactic(auto)]
 
 ghost use Rattle.std.specs.Prelude.{◌≡◌, ◌≤◌, ◌<◌, length, MatchOption};

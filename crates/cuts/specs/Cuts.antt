@@ -32,7 +32,7 @@ end_states cuts bits = map end_state (segments cuts bits)
 abbrev pub start_states : List ℕ → List ℕ → List ℕ
 start_states cuts bits = map (λ c. end_state (take c bits)) (0 ∷ cuts)
 
--- Document 02, L6: at most fifteen cuts,
+-- A list of cuts has at most fifteen,
 abbrev pub most_cuts : ℕ
 most_cuts = 15
 

@@ -1,4 +1,4 @@
-// The entries of a memory that is said to hold an expanded interleaver (document 02, L10), held against what they should be.
+// The entries of a memory that is said to hold an expanded interleaver, held against what they should be.
 #![tactic(auto)]
 
 pub mod steps;

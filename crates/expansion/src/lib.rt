@@ -1,4 +1,4 @@
-// The expanded interleaver, built in lent memory (document 02, L10).
+// The expanded interleaver, built in lent memory.
 #![tactic(auto)]
 
 pub mod steps;

@@ -1,4 +1,4 @@
-// Prints document 01's listing: a line for each ACM format, from its record. Standard error has a line for each whose codewords are not the
+// Prints the listing: a line for each ACM format, from its record. Standard error has a line for each whose codewords are not the
 // standard's.
 #![tactic(auto)]
 

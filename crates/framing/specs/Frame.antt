@@ -23,6 +23,6 @@ frame f pilots labels = header f pilots ++ body pilots labels
 abbrev pub frame_length : ℕ → ℕ
 frame_length pilots = header_length + (if eqb pilots pilots_on then piloted_length frame_labels else frame_labels)
 
--- the codeword section at a place (document 01: a part)
+-- the codeword section at a place
 abbrev pub section : List ℕ → ℕ → List ℕ
 section labels place = take symbols (drop (place * symbols) labels)

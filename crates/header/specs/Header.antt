@@ -6,7 +6,7 @@ use Rattle.header.specs.Descriptor.{descriptor_length, descriptor}
 abbrev pub header_length : ℕ
 header_length = marker_length + descriptor_length
 
--- the slots of a marker or descriptor bit (document 01)
+-- the slots of a marker or descriptor bit
 abbrev pub header_zero : ℕ
 header_zero = 256
 

@@ -17,7 +17,7 @@ const DESCRIPTOR_LENGTH: usize = 64;
 // Slots of the header.
 pub const LENGTH: usize = MARKER_LENGTH + DESCRIPTOR_LENGTH;
 
-// The slots of a marker or descriptor bit (document 01).
+// The slots of a marker or descriptor bit.
 const HEADER_ZERO: u16 = 256;
 
 const HEADER_ONE: u16 = 257;

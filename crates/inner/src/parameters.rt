@@ -13,8 +13,8 @@ use interleaver::steps::{BANKS, Permutation, Place, Walk};
 use puncture::steps::RateMatching;
 use puncture::{LAID_OUT, PERIOD};
 
-// A format's record, its interleaver, its rate matching, and its puncturing pattern, laid out, in which a position is found by W × bank modulo 300. The vectors α and
-// β are copied: the loop over the bits takes 1.1 times as long where it reaches them by pointers, for want of registers.
+// A format's record, its interleaver, its rate matching, and its puncturing pattern, laid out, in which a position is found by W × bank modulo 300.
+// The vectors α and β are copied: the loop over the bits takes 1.1 times as long where it reaches them by pointers, for want of registers.
 #[derive(Clone, Copy)]
 pub struct Parameters {
     pub format: AcmFormat,

@@ -1,4 +1,4 @@
--- The expanded interleaver (document 02, L10): a list whose entry i is the interleaved position of i.
+-- The expanded interleaver: a list whose entry i is the interleaved position of i.
 use Rattle.std.specs.Prelude.{Bool, List, [], ◌∷◌, ℕ, zero, suc, ◌+◌, take}
 use Rattle.bits.specs.Same.{same}
 use Rattle.acm.specs.Formats.{format_of}

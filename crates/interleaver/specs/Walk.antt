@@ -1,4 +1,4 @@
--- A walk over the positions in order (document 02, L3): row and column are running values, and W × bank is looked up.
+-- A walk over the positions in order: row and column are running values, and W × bank is looked up.
 use Rattle.std.specs.Prelude.{◌≡◌, List, ℕ, ◌+◌, ◌*◌, ◌/◌, ◌%◌, ◌≤◌, ◌<◌, length, get_or}
 use Rattle.acm.specs.Formats.{M}
 use Rattle.interleaver.specs.declared.steps.Walk.{Walk}

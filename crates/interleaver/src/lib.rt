@@ -17,11 +17,11 @@ pub mod steps;
 // Banks of an interleaver, and columns of its positions.
 pub const M: usize = 120;
 
-// A position in the upper register, i of the standard (document 01: a place in the upper register).
+// A position in the upper register, i of the standard.
 #[derive(Clone, Copy, Debug, PartialEq, Eq)]
 pub struct UpperPosition(pub usize);
 
-// Its interleaved position, π(i) (document 01: an interleaved place). Only the interleaver can make one.
+// Its interleaved position, π(i). Only the interleaver can make one.
 #[derive(Clone, Copy, Debug, PartialEq, Eq)]
 pub struct InterleavedPosition(usize);
 

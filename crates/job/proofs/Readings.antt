@@ -1,4 +1,4 @@
--- Document 01's readings of job lines.
+-- Job lines, read: which are refused, and with what.
 use mathlib.Core.Path.{◌≡◌, refl}
 use Rattle.bits.specs.Place.{place}
 use Rattle.ascii.specs.Text.{ascii, decimal, decimal_within}

@@ -1,4 +1,4 @@
--- What the bench prints for a text on its standard input (document 01).
+-- What the bench prints for a text on its standard input.
 use Rattle.std.specs.Prelude.{List, [], ◌∷◌, ◌++◌, ℕ, eqb, if◌then◌else◌}
 use Rattle.bits.specs.Checks.{passed}
 use Rattle.ascii.specs.Text.{ascii, line}

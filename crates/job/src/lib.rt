@@ -1,4 +1,4 @@
-// What the bench prints (document 01, "The bench program").
+// What the bench prints.
 #![tactic(auto)]
 
 ghost use Rattle.std.specs.Prelude.{◌≡◌, ◌≤◌, length};

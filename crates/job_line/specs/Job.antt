@@ -26,7 +26,7 @@ job_checks text = is_line text or_else bad_line ∷ numbers_checks (format_in te
 unfoldable pub job_number : List ℕ → ℕ
 job_number text = first_failed (job_checks text)
 
--- an answer, as document 01 numbers it: a refusal has 0 in every other field
+-- an answer in numbers: a refusal has 0 in every other field
 pub record Answer : Type 0 where
   pub number : ℕ
   pub format : ℕ

@@ -1,4 +1,4 @@
--- The job line (document 01): format, comma, pattern, line feed, end.
+-- The job line: format, comma, pattern, line feed, end.
 use Rattle.std.specs.Prelude.{◌≡◌, Bool, true, ◌&&◌, List, [], ◌∷◌, map, ℕ, ◌+◌, ◌-◌, ◌*◌, ◌^◌, ◌<◌, leb, ltb, take, drop, if◌then◌else◌, Option, Some, None}
 use Rattle.bits.specs.Digits.{value_from}
 use Rattle.bits.specs.Place.{place}

@@ -1,4 +1,4 @@
-// The job line of the bench (document 01, "The bench program").
+// The job line of the bench.
 #![tactic(auto)]
 
 ghost use Rattle.std.specs.Prelude.{◌≡◌, IfOk};

@@ -1,4 +1,4 @@
-// The job line (document 01): format, comma, pattern, line feed, end.
+// The job line: format, comma, pattern, line feed, end.
 ghost use Rattle.std.specs.Prelude.{◌≡◌, true, ◌≤◌, ◌==◌, length, position};
 ghost use Rattle.job_line.specs.Line.{value as value_of, all_digits, field_digits, field_of, line_of};
 

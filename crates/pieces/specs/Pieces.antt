@@ -1,4 +1,4 @@
--- The pieces (004, 4.3; document 02, L8): the bits that do not go through the trellises, 8,048 at a time, each piece coded by itself. A piece and
+-- The pieces (004, 4.3): the bits that do not go through the trellises, 8,048 at a time, each piece coded by itself. A piece and
 -- its 52 check bits are a column of labels.
 use Rattle.std.specs.Prelude.{List, [], ◌++◌, ℕ, zero, suc, ◌/◌, length, take, drop}
 use Rattle.acm.specs.Formats.{piece_length}

@@ -1,5 +1,5 @@
--- Pilots among the labels (5.3, table 5-2): behind those of each sub-section. Figure 5-5, which draws them, is missing in our copy; document 02 says
--- that they follow the labels.
+-- Pilots among the labels (5.3, table 5-2): behind those of each sub-section. Figure 5-5, which draws them, is missing in our copy: that they
+-- follow the labels was decided (docs/DECISIONS.md).
 use Rattle.std.specs.Prelude.{List, ◌++◌, ℕ, zero, suc, ◌+◌, ◌*◌, ◌/◌, length, take, drop, replicate}
 
 -- a sub-section: labels, and the pilots that follow them
@@ -12,7 +12,7 @@ subsection_pilots = 16
 abbrev pub subsection_length : ℕ
 subsection_length = subsection_labels + subsection_pilots
 
--- the slot of a pilot (document 02)
+-- the slot of a pilot
 abbrev pub pilot : ℕ
 pilot = 258
 

@@ -10,7 +10,7 @@ pub const SUBSECTION_PILOTS: usize = 16;
 
 const SUBSECTION_LENGTH: usize = SUBSECTION_LABELS + SUBSECTION_PILOTS;
 
-// The slot of a pilot (document 02).
+// The slot of a pilot.
 const PILOT: u16 = 258;
 
 // Labels with pilots, from the slot at on.

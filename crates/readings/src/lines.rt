@@ -1,4 +1,4 @@
-// Document 01's job lines, each with its line feed.
+// Job lines that are refused, each with its line feed.
 use crate::answer::print_check;
 use std::io;
 

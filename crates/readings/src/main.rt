@@ -1,5 +1,6 @@
-// Makes the calls that the rows of its standard input ask for, and prints each row with the answer behind it. The rows are those of
-// document 01's "Readings to try" that are not proved, and every check of every call, each check alone and before the ones behind it.
+// Makes the calls that the rows of its standard input ask for, and prints each row with the answer behind it. The rows are the readings that the
+// user gave to try and that are not proved (crates/claims has the others), and every check of every call, each check alone and before the ones
+// behind it.
 #![tactic(auto)]
 
 ghost use Rattle.std.specs.Prelude.{◌≤◌, length};

@@ -1,4 +1,4 @@
-// The row of a job (document 01). Opened to the layers above alone.
+// The row of a job. Opened to the layers above alone.
 ghost use Rattle.std.specs.Prelude.{◌≡◌, ◌≤◌, ◌<◌, ◌==◌, length, count_by};
 ghost use Rattle.acm.specs.Formats.{format_of};
 ghost use Rattle.encoder.specs.Codeword.{codeword as codeword_of};
@@ -6,7 +6,7 @@ ghost use Rattle.row.specs.Row.{block as block_of, ones, row_of};
 
 use acm::AcmFormat;
 
-// The patterns (document 01).
+// The patterns.
 const ALL_ZEROS: u64 = 0;
 
 const ALL_ONES: u64 = 1;

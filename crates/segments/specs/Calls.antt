@@ -1,4 +1,4 @@
--- Encoding by segments (document 02, L6): the number that the call answers, the states, and what it leaves in each buffer.
+-- Encoding by segments: the number that the call answers, the states, and what it leaves in each buffer.
 use Rattle.std.specs.Prelude.{◌&&◌, List, [], ◌∷◌, ℕ, eqb, length, if◌then◌else◌, Result, Ok, Err}
 use Rattle.bits.specs.Checks.{Check, ◌or_else◌, check_number, first_failed, passed, many_cuts, bad_cut}
 use Rattle.bits.specs.declared.checks.Refusal.{Refusal}

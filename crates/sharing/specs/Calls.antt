@@ -1,4 +1,4 @@
--- Encoding through an interleaver memory (document 02, L10): the number that the call answers, the size that the memory holds then, and what is left
+-- Encoding through an interleaver memory: the number that the call answers, the size that the memory holds then, and what is left
 -- in each buffer.
 use Rattle.std.specs.Prelude.{true, List, [], ◌∷◌, ◌++◌, ℕ, eqb, leb, length, drop, if◌then◌else◌, Result, Ok, Err}
 use Rattle.bits.specs.Checks.{Check, ◌or_else◌, check_number, first_failed, passed, bad_element, short_memory}

@@ -1,4 +1,4 @@
-// Two channels, one interleaver memory (document 02, L10): encoding through the expanded interleaver that a memory holds.
+// Two channels, one interleaver memory: encoding through the expanded interleaver that a memory holds.
 #![tactic(auto)]
 
 ghost use Rattle.std.specs.Prelude.{◌≡◌, true, ◌++◌, ◌≤◌, length, drop, IfOk};

@@ -1,4 +1,4 @@
--- The slicer's calls (000, 3.4; document 02, L1): what each answers, and what it leaves in each buffer.
+-- The slicer's calls (000, 3.4): what each answers, and what it leaves in each buffer.
 use Rattle.std.specs.Prelude.{Bool, true, false, ◌&&◌, ◌||◌, not, List, [], ◌∷◌, ◌++◌, ℕ, ◌+◌, ◌-◌, eqb, leb, ltb, length, take, drop, if◌then◌else◌, Result, Ok, Err}
 use Rattle.bits.specs.Checks.{Check, ◌or_else◌, first_failed, check_number, passed, bad_format, short_output, bad_frame_length, other_frame_length, block_waits}
 use Rattle.bits.specs.declared.checks.Refusal.{Refusal}
@@ -27,7 +27,7 @@ K s = (format_of s.format).k
 abbrev pub fits_channel : ℕ → ℕ → Bool
 fits_channel first octets = eqb first 0 || eqb first octets
 
--- an answer, as document 02 numbers it: the number of the check that failed, 0 if none did, and the slicer, as it came if one did
+-- an answer in numbers: the number of the check that failed, 0 if none did, and the slicer, as it came if one did
 pub record Answer : Type 0 where
   pub number : ℕ
   pub slicer : Slicer
@@ -77,7 +77,7 @@ block_number s memory room = first_failed (block_checks s memory room)
 abbrev pub without_block : Slicer → Slicer
 without_block s = record { format = s.format; octets = s.octets; waiting = s.waiting - K s }
 
--- an answer, as document 02 numbers it: a block is handed out, or "wait" said, which has the number 0 too, or the call is refused
+-- an answer in numbers: a block is handed out, or "wait" said, which has the number 0 too, or the call is refused
 pub record BlockAnswer : Type 0 where
   pub number : ℕ
   pub block : Bool

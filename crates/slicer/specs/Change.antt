@@ -1,4 +1,4 @@
--- A change of format between blocks, and the look ahead (document 02, L4). Both read the slicer alone.
+-- A change of format between blocks, and the look ahead. Both read the slicer alone.
 use Rattle.std.specs.Prelude.{◌&&◌, List, [], ◌∷◌, ℕ, ◌/◌, ◌%◌, eqb, leb, if◌then◌else◌, Result, Ok, Err}
 use Rattle.bits.specs.Checks.{Check, ◌or_else◌, first_failed, check_number, passed, bad_format, bad_length}
 use Rattle.bits.specs.declared.checks.Refusal.{Refusal}
@@ -27,7 +27,7 @@ changed s f =
     let number = change_number s f in
     record { number = number; slicer = if eqb number passed then with_format s f else s }
 
--- what a look answers, as document 02 numbers it: blocks that the waiting bits yield, and bits that stay
+-- what a look answers, in numbers: blocks that the waiting bits yield, and bits that stay
 pub record LookAnswer : Type 0 where
   pub number : ℕ
   pub blocks : ℕ

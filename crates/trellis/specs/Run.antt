@@ -1,4 +1,4 @@
--- A run as request L5 of document 02 asks for it: from the state with the number s, over a list of bits, into an output of so many bytes.
+-- A run: from the state with the number s, over a list of bits, into an output of so many bytes.
 use Rattle.std.specs.Prelude.{◌&&◌, List, [], ◌∷◌, ◌++◌, ℕ, ◌*◌, eqb, leb, length, drop, if◌then◌else◌}
 use Rattle.bits.specs.Checks.{Check, ◌or_else◌, first_failed, passed, bad_element, short_output}
 use Rattle.bits.specs.Legal.{all_bits}

@@ -24,7 +24,7 @@ parity x u = u ⊕ x.1
 abbrev pub next : State → ℕ → State
 next x u = (x.1, x.0 ⊕ x.1 ⊕ u)
 
--- The step as document 01 asks for it: states are the numbers 2 * x0 + x1.
+-- The step in numbers: states are the numbers 2 * x0 + x1.
 abbrev pub state_number : State → ℕ
 state_number x = 2 * x.0 + x.1
 
@@ -34,7 +34,7 @@ state_of s = (s / 2, s % 2)
 abbrev pub is_state : ℕ → Bool
 is_state s = leb s 3
 
--- an answer, as document 01 numbers it: the number of the check, the two output bits and the state that follows. A refusal has 0 in every other
+-- an answer in numbers: the number of the check, the two output bits and the state that follows. A refusal has 0 in every other
 -- field
 pub record Stepped : Type 0 where
   pub number : ℕ
@@ -67,7 +67,7 @@ abbrev pub ends : State → List ℕ → State
 ends x [] = x
 ends x (u ∷ us) = ends (next x u) us
 
--- Termination (document 01: closing): two steps, each on the bit x0 ⊕ x1.
+-- Termination: two steps, each on the bit x0 ⊕ x1.
 abbrev pub terminating : State → ℕ
 terminating x = x.0 ⊕ x.1
 

@@ -37,7 +37,7 @@ pub struct Step {
     pub state: State,
 }
 
-// The two terminating steps (document 01: closing): the systematic and the parity bit of each.
+// The two terminating steps: the systematic and the parity bit of each.
 #[derive(Clone, Copy, Debug, PartialEq, Eq)]
 pub struct Termination {
     pub s0: u8,

@@ -3,7 +3,7 @@ use acm::AcmFormat;
 use std::{fmt, io};
 use testkit::{UNTOUCHED, WHOLE, buffer, front, print_digest};
 
-// A block of a format: one of document 01's patterns, which are all zeros, all ones, and a single one at place 0, or a seeded block.
+// A block of a format: one of the job line's patterns, which are all zeros, all ones, and a single one at place 0, or a seeded block.
 #[derive(Clone, Copy, Debug, PartialEq, Eq)]
 enum Block {
     Zeros,

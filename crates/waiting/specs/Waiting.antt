@@ -1,4 +1,4 @@
--- Bits that wait in lent memory, a bit a byte, from byte 0 on (document 02, L1).
+-- Bits that wait in lent memory, a bit a byte, from byte 0 on.
 use Rattle.std.specs.Prelude.{List, [], ◌∷◌, ◌++◌, ℕ, ◌+◌, leb, length, take, drop}
 use Rattle.bits.specs.Checks.{Check, ◌or_else◌, first_failed, bad_length, bad_element, short_workspace}
 use Rattle.bits.specs.Legal.{all_bits}
