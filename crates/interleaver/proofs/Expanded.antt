@@ -1,7 +1,7 @@
 -- The expanded interleaver: its entries, what is left of them at a position, the memories that hold it, and that formats of one size have one.
 use mathlib.Core.Path.{◌≡◌, refl, sym, ap, ◌∙◌}
 use mathlib.Core.Bool.{true}
-use mathlib.Core.List.{List, [], ◌∷◌, ◌++◌}
+use mathlib.Core.List.{List, ◌∷◌, ◌++◌}
 use Prim.Native.Nat.{ℕ, zero, suc, ◌+◌, ◌-◌, ◌≤◌, ◌<◌}
 use native.Mathlib.Omega.{arith}
 use lib.ListN.{length, get_or, take, drop, take-append-drop, length-take}
@@ -40,16 +40,6 @@ module _ (ρ : ℕ → ℕ) where
 
   -- of the entries up to n, those from i on
   module _ (n i : ℕ) where
-    pub expanded-next : i < n → expanded_from ρ i (n - i) ≡ ρ i ∷ expanded_from ρ (i + 1) (n - (i + 1))
-    expanded-next h =
-        let e : n - i ≡ suc (n - (i + 1)) = omega arith in
-        ap (expanded_from ρ i) e
-
-    pub expanded-end : n ≤ i → expanded_from ρ i (n - i) ≡ []
-    expanded-end h =
-        let e : n - i ≡ 0 = omega arith in
-        ap (expanded_from ρ i) e
-
     pub expanded-split : (m : ℕ) → i ≤ m → m ≤ n → expanded_from ρ i (n - i) ≡ expanded_from ρ i (m - i) ++ expanded_from ρ m (n - m)
     expanded-split m h k =
         let e : n - i ≡ m - i + (n - m) = omega arith in

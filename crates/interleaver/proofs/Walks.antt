@@ -77,7 +77,3 @@ module _ (α β : List ℕ) (v : Vectors α β) (column row : ℕ) (c : column <
   pub residue_in : (P : ℕ) (residues : List ℕ) → Multiples (length α) P residues → (get_or residues sum 0 + get_or α row 0) % P ≡ position % P
   residue_in P residues m =
       rw permuted-in (ap (λ (k : ℕ). (k + get_or α row 0) % P) (m.entry sum sum_low) ∙ mod-add-mod (length α * (sum % M)) P (get_or α row 0))
-
--- an entry of a table of multiples
-pub entry_low : {W P : ℕ} {l : List ℕ} → Multiples W P l → 0 < P → (j : ℕ) → j < 2 * M → get_or l j 0 < P
-entry_low {W} {P} m some j h = rw (m.entry j h) (mod-lt (W * (j % M)) some)
