@@ -21,29 +21,10 @@ module _ (f : ℕ) (block : List ℕ) (work_room out_room : ℕ) (memory : List 
   abbrev number : ℕ
   number = shared_number f block work_room out_room memory held
 
-  -- encode's checks decide where one of them fails, and else those of the memory
-  pub encode_first : (plain ≡ passed → ⊥) → plain ≡ number
-  unfolding shared_number
-  encode_first e = when_refused plain (first_failed (memory_checks f memory held)) plain e
-
-  pub memory_later : plain ≡ passed → first_failed (memory_checks f memory held) ≡ number
+  -- once encode's checks hold, those of the memory decide
+  memory_later : plain ≡ passed → first_failed (memory_checks f memory held) ≡ number
   unfolding shared_number
   memory_later e = when_passed plain (first_failed (memory_checks f memory held)) plain e
-
-  -- the exits behind encode's checks
-  module _ (encodes : plain ≡ passed) {r : Format} (is : r ≡ format_of f) where
-    pub short : length memory < r.i → short_memory ≡ number
-    short h = rw (← memory_later encodes, ← is, lt-leb r.i (length memory) h)
-
-    module _ (room : r.i ≤ length memory) where
-      pub other_size : (held ≡ r.i → ⊥) → passed ≡ number
-      other_size n = rw (← memory_later encodes, ← is, le-leb r.i (length memory) room, ne_eqb held r.i n)
-
-      pub wrong_entry : held ≡ r.i → expands f memory ≡ false → bad_element ≡ number
-      wrong_entry e n = rw (← memory_later encodes, ← is, le-leb r.i (length memory) room, eq-eqb held r.i e, n)
-
-      pub right_entries : held ≡ r.i → expands f memory ≡ true → passed ≡ number
-      right_entries e t = rw (← memory_later encodes, ← is, le-leb r.i (length memory) room, eq-eqb held r.i e, t)
 
   pub record SharedPassed : Type 0 where
     pub passes : number ≡ passed

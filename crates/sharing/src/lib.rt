@@ -53,6 +53,7 @@ fn prepare(format: AcmFormat, memory: &mut [u16], held: u64) -> u64
 }
 
 // The format of a call that encode_shared takes, or the first of its checks that fails.
+#[tactic(auto, using(std::proofs::lemmas::Bool::Decides::nat_tests), unfolding(crate::specs::Calls::shared_number))]
 fn check_shared(
     format: u64,
     block: &[u8],
