@@ -84,12 +84,7 @@ pub left-stretch : {out₀ : List ℕ} {at : ℕ} {ws out us : List ℕ} {n : �
     → Left out₀ at ws out n us → Left out₀ at ws new k vs
 left-stretch new xs vs k split stored past l = rw (stored, past) (left_stores xs vs (left_as split l))
 
--- a loop that counts its stores, k of them so far, from `at` on
+-- a loop that counts its stores, from `at` on, once none is left
 module _ {out₀ : List ℕ} {at : ℕ} {ws out : List ℕ} where
-  pub fill_next : (k : ℕ) {x : ℕ} {us vs : List ℕ} → us ≡ x ∷ vs → Left out₀ at ws out (at + k) us → Left out₀ at ws (set out (at + k) x) (at + (k + 1)) vs
-  fill_next k e l =
-      let s : at + (k + 1) ≡ at + k + 1 = omega arith in
-      rw s (left_store (left_as e l))
-
   pub fill_end : {n : ℕ} {us : List ℕ} → us ≡ [] → Left out₀ at ws out n us → out ≡ sets out₀ at ws
   fill_end e l = (left_as e l).rest

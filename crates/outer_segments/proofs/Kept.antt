@@ -13,7 +13,7 @@ use Rattle.bits.proofs.Fill.{sets-append, sets-front}
 use Rattle.trellis.specs.Trellis.{State, zero-state, parity, next, parities, ends, termination, terminated, kept, outer}
 use Rattle.trellis.proofs.Runs.{terminated-length}
 use Rattle.cuts.specs.Cuts.{between}
-use Rattle.cuts.proofs.Propagations.{between-joins, between-length}
+use Rattle.cuts.proofs.Propagations.{between-joins}
 use Rattle.outer_segments.specs.Kept.{kept_from, kept_before}
 
 pub kept-length : (i : ℕ) (x : State) (bits : List ℕ) → kept_before i + length (kept_from i x bits) ≡ kept_before (i + length bits)
@@ -81,11 +81,6 @@ stored-length {bits} {work₀} {from} s = ap length s.before ∙ length-sets wor
 module _ (bits : List ℕ) {work₀ work : List ℕ} (from to : ℕ) (stored : Stored bits work₀ from work) (up : from ≤ to) (low : to ≤ length bits) where
   steps_before : 0 + length (take from bits) ≡ from
   steps_before = omega (arith, length-take-le from bits (omega arith))
-
-  pub segment_room : kept_before (length bits) ≤ length work₀ → kept_before (from + length (between from to bits)) ≤ length work
-  segment_room room =
-      let e : from + length (between from to bits) ≡ to = omega (arith, between-length from to bits low) in
-      rw e (omega (arith, stored-length stored, room))
 
   pub stored_next : {x : State} {new : List ℕ} → x ≡ ends zero-state (take from bits) → new ≡ sets work (kept_before from) (kept_from from x (between from to bits)) → Stored bits work₀ to new
   stored_next is New-is =

@@ -1,15 +1,14 @@
--- Which check decides, and what the number 0 says of a call's arguments.
+-- What the number 0 says of a call's arguments.
 use mathlib.Core.Path.{◌≡◌, refl, sym, ◌∙◌}
-use mathlib.Core.Bool.{true, false}
+use mathlib.Core.Bool.{true}
 use mathlib.Core.List.{List}
-use Prim.Native.Nat.{ℕ, ◌≤◌, ◌<◌}
-use borrow.Author.Tests.{leb-true, le-leb, lt-leb, eq-eqb, ne_eqb}
+use Prim.Native.Nat.{ℕ, ◌≤◌}
+use borrow.Author.Tests.{leb-true, eq-eqb}
 use lib.Dec.{lit<}
 use lib.ListN.{length}
-use Rattle.bits.specs.Checks.{◌or_else◌, first_failed, passed, bad_element, short_memory}
-use Rattle.bits.proofs.Passed.{passes as passes-at, when_passed, when_refused, passed-before}
+use Rattle.bits.specs.Checks.{◌or_else◌, first_failed, passed}
+use Rattle.bits.proofs.Passed.{passes as passes-at, when_passed, passed-before}
 use Rattle.acm.specs.Formats.{format_of}
-use Rattle.acm.specs.declared.table.Format.{Format}
 use Rattle.interleaver.specs.Expanded.{expands}
 use Rattle.encoder.specs.Calls.{encode_number}
 use Rattle.sharing.specs.Calls.{memory_checks, shared_number}
