@@ -105,6 +105,10 @@ line_read text e =
 pub line_agrees : (text : List ℕ) → (is_line text ≡ true) ↔ WellFormed text
 line_agrees text = (line_read text, λ w. ap is_line w.written ∙ line-written w.format w.pattern w.format-low w.pattern-low)
 
+-- the two numbers that a line is written of are those that are read
+pub numbers_agree : (f p : ℕ) → f < field_limit → p < field_limit → line_of (line (f ∷ p ∷ [])) ≡ Some (record { format = f; pattern = p })
+numbers_agree f p hf hp = rw (line-written f p hf hp, format-written f p hf hp, pattern-written f p hf hp)
+
 pub line-short : (text : List ℕ) → is_line text ≡ true → length text ≤ longest_line
 line-short text e =
     let w = line_read text e in
