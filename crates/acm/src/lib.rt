@@ -36,6 +36,7 @@ pub fn lookup(format: u64) -> Result<Format, Refusal>
 }
 
 // The largest label of an ACM format, 2^m - 1, for any number: 0 where there is no such format.
+// It cannot fail; whoever has an `AcmFormat` asks that one.
 #[tactic(auto, using(crate::proofs::Laws::no_record))]
 pub fn top_label(format: u64) -> u8
     ensures { result ≡ top_label format }
