@@ -19,6 +19,10 @@ pub run-append : (x : State) (a b : List ℕ) → run x (a ++ b) ≡ run x a ++ 
 run-append x [] b = refl
 run-append x (u ∷ a) b = rw (run-append (next x u) a b)
 
+pub parities-append : (x : State) (a b : List ℕ) → parities x (a ++ b) ≡ parities x a ++ parities (ends x a) b
+parities-append x [] b = refl
+parities-append x (u ∷ a) b = rw (parities-append (next x u) a b)
+
 pub run_length : (x : State) (bits : List ℕ) → length (run x bits) ≡ 2 * length bits
 run_length x [] = refl
 run_length x (u ∷ us) = omega (arith, run_length (next x u) us)

@@ -18,16 +18,16 @@ pub use state::{State, Step, Termination};
 pub fn step(state: u64, bit: u64) -> Result<Step, Refusal>
     ensures { step_answer result ≡ stepped state bit }
 {
-    let from = State::try_from(state)?;
+    let x = State::try_from(state)?;
     if 1 < bit {
         return Err(Refusal::Element);
     }
-    // A number up to 1 loses nothing.
+    // By `as`: std has no `From` that narrows, and a number up to 1 loses nothing.
     let u = bit as u8;
     Ok(Step {
         systematic: u,
-        parity: from.parity(u),
-        state: from.next(u),
+        parity: x.parity(u),
+        state: x.next(u),
     })
 }
 

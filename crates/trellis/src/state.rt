@@ -130,7 +130,7 @@ impl TryFrom<u64> for State {
         if LAST < number {
             return Err(Refusal::Element);
         }
-        // A number up to 3 loses nothing.
+        // By `as`: std has no `From` that narrows, and a number up to 3 loses nothing.
         Ok(State::from_low_bits(number as u8))
     }
 }
