@@ -49,7 +49,8 @@ struct Place {
     rows: usize,
 }
 
-// Where the size with W = w stands.
+// Where the size with W = w stands. By hand: one pass gives the size's number and the rows before it. `position` and a sum over the front are two,
+// and leave an `Option` of a number that both callers know to be there.
 #[tactic(auto, using(bits::proofs::Places::place_here, bits::proofs::Places::place_later, bits::proofs::Places::place_end, crate::proofs::Flats::rows_next))]
 fn locate(widths: &[usize], w: usize) -> Place
     requires { rows_before w widths.now < 2 ^ 64 }

@@ -10,8 +10,9 @@ pub const LINE_FEED: u8 = b'\n';
 pub const ZERO: u8 = b'0';
 
 // Words, from the place at on; answers the place behind them.
-// Buffer and place stay two parameters: a struct of both has the same clauses and one fact more, that the place is inside, for two callers that
-// put two texts each.
+// Buffer and place stay two parameters, here and below: a struct of both has the same clauses and one fact more, that the place is inside, for
+// two callers that put two texts each; and of a part of out they would have to say what one equation, `sets`, says: where the bytes go and what
+// stays.
 #[tactic(auto, using(bits::proofs::Parts::sets_of_part))]
 pub fn put(words: &[u8], out: &mut [u8], at: usize) -> usize
     requires { at + length words.now ≤ length out.old }
@@ -51,8 +52,9 @@ fn put_decimal(n: u64, out: &mut [u8], at: usize) -> usize
 {
     let end = at + digits(n);
     let mut rest = n;
+    // By index: of what is written through a reversed `iter_mut` the proof knows the length alone.
     for i in (at..end).rev() {
-        // A digit loses nothing.
+        // By `as`: std has no `From` that narrows, and a digit loses nothing.
         out[i] = ZERO + (rest % 10) as u8;
         rest /= 10;
     }

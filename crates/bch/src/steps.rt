@@ -15,7 +15,7 @@ pub const CHECK_LENGTH: usize = 52;
 const BYTE_LENGTH: usize = 8;
 
 // The codeword of a list of bits, to the front of out: the bits, and behind them their check bits.
-// That they are bits is a clause: a type for it is no plainer, since what is encoded are pieces of a list and the bytes of a piece, each of which
+// That they are bits is a clause, here and below: a type for it is no plainer, since what is encoded are pieces of a list and the bytes of a piece, each of which
 // would have to be shown to be bits as now.
 pub fn encode(list: &[u8], out: &mut [u8])
     requires { (all_bits list.now ≡ true) × (length list.now % byte_length ≡ 0) × (length list.now + check_length ≤ length out.old) }

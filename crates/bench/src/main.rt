@@ -42,7 +42,7 @@ fn print(rt: &impl Print, input: &[u8]) -> io::Result<()> {
     rt.write_all(&out[..n])
 }
 
-// A line on standard error if the codeword is not the standard's.
+// A line on standard error if the codeword is not the standard's. crates/formats prints nearly the same: each program says what its output is.
 fn warn(rt: &impl Eprint, input: &[u8]) -> io::Result<()> {
     let Ok(Job { format, .. }) = job_line::parse(input) else {
         return Ok(());

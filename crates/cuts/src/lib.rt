@@ -10,15 +10,16 @@ pub mod steps;
 pub const SEGMENTS: usize = 16;
 
 // For each of the sixteen segments of a trellis, as numbers 2 * x0 + x1: the state in which its run from 00 ends, and its true starting state.
-// Both are 0 past the last segment. They are arrays of numbers because the C interface hands them out as such.
+// Both are 0 past the last segment. Numbers and no `State`s: the definitions `end_states`, `start_states` and `padded` are lists of numbers, and
+// the bytes that C gets are these.
 #[derive(Clone, Copy, Debug, PartialEq, Eq)]
 pub struct States {
     pub ended: [u8; SEGMENTS],
     pub started: [u8; SEGMENTS],
 }
 
-// Whether there are at most fifteen cuts. This and the next are two tests, and no type stands for cuts that pass both: a call asks the first of
-// both its lists before it asks the second of either.
+// Whether there are at most fifteen cuts. This and the next are two tests, and no type stands for cuts that pass both: they are so for an input
+// that is lent beside them. A type would carry the input's length, and every contract would say that it is that input's.
 pub fn few(cuts: &[u16]) -> bool
     ensures { result ≡ is_few cuts.now }
 {

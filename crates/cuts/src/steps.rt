@@ -62,6 +62,7 @@ pub fn starts(cuts: &[u16], ended: &[u8]) -> [u8; SEGMENTS]
     let mut started = [0; SEGMENTS];
     let mut state = State::ZERO;
     let mut from = 0;
+    // By index: of what is written through `iter_mut` beside another iterator the proof knows the length alone.
     for (j, (&cut, &end)) in cuts.iter().zip(ended).enumerate() {
         state = propagate(state, cut - from).sum(State::from_low_bits(end));
         started[j + 1] = u8::from(state);

@@ -20,6 +20,8 @@ fn print_line(rt: &impl Print, f: Format) -> io::Result<()> {
     println!(rt; "{},{},{},{},{},{}", f.number, f.m, f.k, f.i, f.w, f.n)
 }
 
+// A line on standard error if the format's codewords are not the standard's. crates/bench prints nearly the same: each program says what its
+// output is.
 fn warn(rt: &impl Eprint, format: u64) -> io::Result<()> {
     let Ok(Source::StandIn) = interleaver::provenance(format) else {
         return Ok(());

@@ -23,6 +23,7 @@ use trellis::State;
 // The codeword's trellis part, of the outer kept bits at the front of work, to the front of out, by the segments between cuts of the interleaved
 // bits. Between the two passes the starting states are worked out.
 // Answers the states of the segments.
+// That the interleaved bits are bits is a clause: they lie in work at the interleaver's places, and no list that a type could be of has them.
 pub fn encode(format: AcmFormat, cuts: &[u16], work: &[u8], out: &mut [u8]) -> States
     requires lent { ((format_of format.number).i ≤ length work.now) × (N1 (format_of format.number) ≤ length out.old) }
     requires cuts { Cuts (format_of format.number).i cuts.now × (all_bits (interleaved (format_of format.number) (π format.number) work.now) ≡ true) }
@@ -43,6 +44,7 @@ fn first(parameters: &Parameters, work: &[u8], cuts: &[u16]) -> [u8; SEGMENTS]
 {
     let mut ended = [0; SEGMENTS];
     let mut walk = Walk::start();
+    // By index: of what is written through `iter_mut` beside another iterator the proof knows the length alone.
     for (j, to) in Stops::of(cuts, parameters.figures.i).enumerate() {
         let from = Run {
             walk,

@@ -17,7 +17,7 @@ pub const LONGEST: usize = 8;
 // The last of the patterns 0, 1 and 2.
 const LAST_PATTERN: u64 = 2;
 
-// What a job line asks for. The pattern is a number, since row::make takes any.
+// What a job line asks for. The pattern is a number, as row::make takes it: that promises a row for any number, and an enum would take fewer.
 #[derive(Clone, Copy, Debug, PartialEq, Eq)]
 pub struct Job {
     pub format: AcmFormat,

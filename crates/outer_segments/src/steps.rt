@@ -33,6 +33,7 @@ fn first(block: &[u8], cuts: &[u16]) -> [u8; SEGMENTS]
 {
     let mut ended = [0; SEGMENTS];
     let mut from = 0;
+    // By index: of what is written through `iter_mut` beside another iterator the proof knows the length alone.
     for (j, to) in Stops::of(cuts, block.len()).enumerate() {
         ended[j] = u8::from(end(&block[from..to]));
         from = to;
@@ -71,6 +72,7 @@ fn segment(from: State, bits: &[u8], i: usize, work: &mut [u8]) -> State
     ensures work_after { work.new ≡ sets work.old (kept_before i) (kept_from i from bits.now) }
 {
     let mut state = from;
+    // By index: a step stores two bits or one, by its place in the whole run.
     for (k, &u) in bits.iter().enumerate() {
         let step = i + k;
         let at = step + (step + 1) / 2;

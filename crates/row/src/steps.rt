@@ -67,7 +67,7 @@ fn encoded_ones(
     count_ones(&codeword[..f.n])
 }
 
-// The block of a pattern, to the whole of out.
+// The block of a pattern, to the whole of out. `Block` of vectors fills the same ones: the tests' blocks are written by themselves.
 #[tactic(auto, unfolding(crate::specs::Row::block))]
 fn put_block(pattern: u64, out: &mut [u8])
     requires { 0 < length out.old }

@@ -1,4 +1,5 @@
 // Transfer frames in, blocks out, of one format after another: the slicer's calls.
+// `as` stands between C's 64-bit numbers and lengths, for which std has no `From`; that nothing is lost is proved.
 ghost use Rattle.std.specs.Prelude.{◌≡◌, length};
 ghost use Rattle.slicer.specs.Calls.{answer_of, fresh, pushed, push_memory, sliced, block_memory, block_output};
 ghost use Rattle.slicer.specs.Change.{look_answer_of, changed, looked};

@@ -22,7 +22,8 @@ const MOST_FRAME: usize = 65536;
 #[derive(Clone, Copy, Debug, PartialEq, Eq)]
 pub struct Slicer {
     pub format: u64,
-    // octets of each of the channel's frames, 0 before the first: a number and no `Option`, since callers in C keep slicers as numbers
+    // octets of each of the channel's frames, 0 before the first: no `Option`, of which `Some(0)` would be one state more than there is, and the
+    // definitions and theorems speak of 0
     pub octets: usize,
     // how many bits wait, from byte 0 of the memory on
     pub waiting: usize,

@@ -49,7 +49,7 @@ pub fn fill_seeded(seed: u64, out: &mut [u8]) {
     let mut x = seed % 2147483648;
     for bit in out.iter_mut() {
         x = (x * 1103515245 + 12345) % 2147483648;
-        // A bit loses nothing.
+        // By `as`: std has no `From` that narrows, and a bit loses nothing.
         *bit = (x / 65536 % 2) as u8;
     }
 }

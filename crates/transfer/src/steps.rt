@@ -15,7 +15,8 @@ const MARKER: [u8; 4] = [0x1A, 0xCF, 0xFC, 0x1D];
 
 const UNMASKED: [u8; 4] = [0, 0, 0, 0];
 
-// The marked and randomized bits of a transfer frame, a bit a byte, from the byte at on.
+// The marked and randomized bits of a transfer frame, a bit a byte, from the byte at on. Why out and at are two parameters, `put_frame` of
+// randomizer says.
 pub fn put(frame: &[u8], out: &mut [u8], at: usize)
     requires { at + (marker_length + octet_length * length frame.now) ≤ length out.old }
     ensures { out.new ≡ sets out.old at (sync_marked frame.now) }

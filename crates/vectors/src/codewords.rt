@@ -13,6 +13,7 @@ enum Block {
 }
 
 impl Block {
+    // Three of them are the patterns of `put_block` of row: the tests' blocks are written by themselves.
     fn fill(self, format: AcmFormat, out: &mut [u8]) {
         match self {
             Block::Zeros => out.fill(0),
