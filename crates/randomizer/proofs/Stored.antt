@@ -2,7 +2,7 @@
 use mathlib.Core.Path.{◌≡◌, refl, sym, ap, ap₂, ◌∙◌}
 use mathlib.Core.List.{List, [], ◌∷◌, ◌++◌, append-nil}
 use Prim.Native.Nat.{ℕ, zero, suc, min, ◌+◌, ◌*◌, ◌/◌, ◌%◌, ◌^◌, ◌≤◌, ◌<◌}
-use native.Mathlib.Nat.{div-div-eq-div-mul}
+use native.Mathlib.Nat.{div-div-eq-div-mul, mul-suc}
 use native.Mathlib.Numerals.{unary_clauses}
 use native.Mathlib.Omega.{arith}
 use borrow.Rule.Slice.PartMut.{put_mid}
@@ -74,10 +74,14 @@ module _ (octets masks : List ℕ) (i : ℕ) where
   unfolding masked unpacked
   octets_none past = rw (drop_of_length-le octets past)
 
--- a chunk of what is left of the frame finds room
-pub chunk-room : {out₀ out : List ℕ} {at n : ℕ} (frame rest chunk next : List ℕ) → rest ≡ chunk ++ next → Left out₀ at (randomized frame) out n (randomized rest)
-    → n + octet_length * length chunk ≤ at + octet_length * length frame
-chunk-room frame rest chunk next parts l = omega (arith, l.count, randomized-length frame, randomized-length rest, ap length parts ∙ length-append chunk next)
+-- one chunk more
+pub chunks-next : (m i : ℕ) → m * (i + 1) ≡ m * i + m
+chunks-next m i = let e : i + 1 ≡ suc i = omega arith in rw e (omega (arith, mul-suc m i))
+
+-- before a chunk, as many octets as come before it are stored
+pub chunk-place : {out₀ out : List ℕ} {at : ℕ} (q : ℕ) (frame rest : List ℕ) → 0 < length rest
+    → Left out₀ at (randomized frame) out (at + octet_length * min q (length frame)) (randomized rest) → q + length rest ≡ length frame
+chunk-place q frame rest some l = omega (arith, some, l.count, randomized-length frame, randomized-length rest)
 
 -- a chunk of the frame, as many octets as there are masks or else all that are left, and what follows it
 module _ (masks : List ℕ) (table : Masks masks) (rest chunk next : List ℕ) (parts : rest ≡ chunk ++ next) (many : length chunk ≡ min (length masks) (length rest)) where
@@ -94,13 +98,16 @@ module _ (masks : List ℕ) (table : Masks masks) (rest chunk next : List ℕ) (
       ∙ sym (append-nil (unpacked octet_length (masked chunk masks)))
       ∙ ap (λ (l : List ℕ). unpacked octet_length (masked chunk masks) ++ randomized l) (sym end))
 
-  pub chunk-next : {out₀ ws out : List ℕ} {at n : ℕ} (new : List ℕ) → new ≡ sets out n (unpacked octet_length (masked chunk masks))
-      → Left out₀ at ws out n (randomized rest)
-      → Left out₀ at ws new (n + octet_length * length chunk) (randomized next)
-  chunk-next {out₀} {ws} {out} {at} {n} new stored l =
+  pub chunk-next : {out₀ out : List ℕ} {at : ℕ} (frame : List ℕ) (q q' : ℕ) (new : List ℕ) → 0 < length rest → q' ≡ q + length masks
+      → new ≡ sets out (at + octet_length * q) (unpacked octet_length (masked chunk masks))
+      → Left out₀ at (randomized frame) out (at + octet_length * min q (length frame)) (randomized rest)
+      → Left out₀ at (randomized frame) new (at + octet_length * min q' (length frame)) (randomized next)
+  chunk-next {out₀} {out} {at} frame q q' new some on stored l =
       let bits = unpacked octet_length (masked chunk masks) in
       let long : length bits ≡ octet_length * length chunk = ap length (masked-is masks table chunk (omega arith)) ∙ randomized-length chunk in
-      left-stretch new bits (randomized next) (n + octet_length * length chunk) chunk-parts stored (omega (arith, long)) l
+      let here = chunk-place q frame rest some l in
+      let e : at + octet_length * q ≡ at + octet_length * min q (length frame) = omega (arith, here) in
+      left-stretch new bits (randomized next) (at + octet_length * min q' (length frame)) chunk-parts (rw e at stored) (omega (arith, on, long, here, many)) l
 
 pub chunk-none : (rest : List ℕ) → length rest ≡ 0 → randomized rest ≡ []
 unfolding randomized unpacked

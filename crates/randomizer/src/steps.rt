@@ -15,10 +15,9 @@ pub fn put_frame(frame: &[u8], masks: &[u8], spread: &[u64], out: &mut [u8], at:
     requires { Masks masks.now × Spread spread.now × (at + octet_length * length frame.now ≤ length out.old) }
     ensures { out.new ≡ sets out.old at (randomized frame.now) }
 {
-    let mut next = at;
-    for octets in frame.chunks(masks.len()) {
+    for (i, octets) in frame.chunks(masks.len()).enumerate() {
+        let next = at + OCTET_LENGTH * (masks.len() * i);
         put_octets(octets, masks, spread, out, next);
-        next += OCTET_LENGTH * octets.len();
     }
 }
 
