@@ -67,7 +67,7 @@ impl Progress {
     {
         let mut at = self;
         while at.walk.position.0 < to {
-            let end = parameters.permutation.stop(at.walk, to);
+            let end = at.walk.stop(parameters.permutation.rows(), to);
             at = at.stretch(parameters, work, out, end);
         }
         at
@@ -93,7 +93,7 @@ impl Progress {
             walk = walk.down();
         }
         Progress {
-            walk: parameters.permutation.carry(walk),
+            walk: walk.carry(parameters.permutation.rows()),
             coder,
         }
     }

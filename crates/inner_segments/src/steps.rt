@@ -80,7 +80,7 @@ impl Run {
                 .permutation
                 .position_in(walk.column(), walk.row());
             state = state.next(work[position.number()]);
-            walk = parameters.permutation.carry(walk.down());
+            walk = walk.down().carry(parameters.permutation.rows());
         }
         Run { walk, state }
     }

@@ -84,31 +84,6 @@ impl<'a> Permutation<'a> {
     {
         place.looked_up(residues)
     }
-
-    // Where a walk to position `to` stops next: at the end of its column, or at `to` if that comes first.
-    pub fn stop(&self, walk: Walk, to: usize) -> usize
-        requires { InColumn (length self.now.alpha.now) walk × (walk.position.0 < M * widest) }
-        ensures { result ≡ min (length self.now.alpha.now * (walk.column + 1)) to }
-    {
-        let end = walk.position.0 + (self.rows() - walk.row);
-        end.min(to)
-    }
-
-    // The carry: from below its column's last row a walk goes on at the first row of the next column. Elsewhere it stays.
-    pub fn carry(&self, walk: Walk) -> Walk
-        requires { InColumn (length self.now.alpha.now) walk × (0 < length self.now.alpha.now) × (walk.column < M) }
-        ensures { (result.position.0 ≡ walk.position.0) × Walked (length self.now.alpha.now) result }
-    {
-        let w = self.rows();
-        if walk.row < w {
-            return walk;
-        }
-        Walk {
-            position: walk.position,
-            row: walk.row - w,
-            column: walk.column + 1,
-        }
-    }
 }
 
 // A walk over the positions in order: where it stands, and the row and column of that position as running values. That they are those of the
@@ -155,6 +130,30 @@ impl Walk {
             position: UpperPosition(self.position.0 + 1),
             row: self.row + 1,
             column: self.column,
+        }
+    }
+
+    // Where a walk to position `to` stops next: at the end of its column of W rows, or at `to` if that comes first.
+    pub fn stop(self, w: usize, to: usize) -> usize
+        requires { InColumn w self × (self.position.0 < M * widest) × (w ≤ widest) }
+        ensures { result ≡ min (w * (self.column + 1)) to }
+    {
+        let end = self.position.0 + (w - self.row);
+        end.min(to)
+    }
+
+    // The carry: from below its column's last row a walk goes on at the first row of the next column. Elsewhere it stays.
+    pub fn carry(self, w: usize) -> Walk
+        requires { InColumn w self × (0 < w) × (self.column < M) }
+        ensures { (result.position.0 ≡ self.position.0) × Walked w result }
+    {
+        if self.row < w {
+            return self;
+        }
+        Walk {
+            position: self.position,
+            row: self.row - w,
+            column: self.column + 1,
         }
     }
 }

@@ -1,5 +1,5 @@
-use mathlib.Core.Path.{ap, ◌∙◌}
-use Prim.Native.Nat.{ℕ, ◌+◌, ◌*◌, ◌≤◌, ◌<◌}
+use mathlib.Core.Path.{◌≡◌, ap, ◌∙◌}
+use Prim.Native.Nat.{ℕ, ◌+◌, ◌*◌, ◌≤◌, ◌<◌, min}
 use native.Mathlib.Omega.{arith}
 use lib.ListN.{length}
 use Rattle.acm.specs.Formats.{M}
@@ -31,16 +31,20 @@ module _ (t : In-loop-at) where
 
 -- where the stretch ends
 module _ (e : After-stop-end) (left : e.loop-at.at.walk.position.0 < length e.args.parameters.now.permutation.alpha.now * (e.loop-at.at.walk.column + 1)) where
+  stops : e.stop-end.result ≡ min (length e.args.parameters.now.permutation.alpha.now * (e.loop-at.at.walk.column + 1)) e.args.to
+  stops = rw e.rows.ensures at e.stop-end.ensures
+
   further : e.loop-at.at.walk.position.0 < e.stop-end.result
-  further = omega (arith, left, e.loop-at-test.true, e.stop-end.ensures)
+  further = omega (arith, left, e.loop-at-test.true, stops)
 
   end : e.stop-end.result ≤ e.args.to
-  end = omega (arith, e.stop-end.ensures)
+  end = omega (arith, stops)
 
 pub stop-end-requires : goal.stop-end-requires
 stop-end-requires c =
     let t = (goal.at.stop-end-requires c).In-loop-at in
-    (column t, omega (arith, inside t, c.args.parameters.now.permutation.ranges.narrow))
+    let narrow = c.args.parameters.now.permutation.ranges.narrow in
+    rw c.rows.ensures (column t, omega (arith, inside t, narrow), narrow)
 
 pub stretch-at-requires-clause-stands : goal.stretch-at-requires-clause-stands
 stretch-at-requires-clause-stands c =
@@ -49,7 +53,7 @@ stretch-at-requires-clause-stands c =
       c.loop-at.invariant.1,
       further e left,
       omega (arith, end e left, c.requires.stands.2),
-      omega (arith, c.stop-end.ensures),
+      omega (arith, stops e left),
     )
 
 pub loop-at-smaller : goal.loop-at-smaller

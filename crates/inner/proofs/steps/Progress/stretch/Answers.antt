@@ -82,7 +82,8 @@ loop-walk-preserved c =
 pub carry-requires : goal.carry-requires
 carry-requires c =
     let (stands, more, end, _) = c.requires.stands in
-    let from : c.args.self.walk.position.0 < M * length c.args.parameters.now.permutation.alpha.now = omega (arith, more, end, size c.args.parameters.now) in (
+    let from : c.args.self.walk.position.0 < M * length c.args.parameters.now.permutation.alpha.now = omega (arith, more, end, size c.args.parameters.now) in
+    rw c.rows.ensures (
       c.loop-walk.invariant.1,
       omega (arith, from),
       omega (arith, walked-column _ c.args.self.walk stands.walked from, c.loop-walk.invariant.2),

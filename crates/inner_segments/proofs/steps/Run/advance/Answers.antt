@@ -59,7 +59,7 @@ down-requires c =
 pub carry-walk-requires : goal.carry-walk-requires
 carry-walk-requires c =
     let t = (goal.at.carry-walk-requires c).In-loop-walk in
-    rw c.down.ensures (
+    rw (c.down.ensures, c.rows.ensures) (
       in_column_down _ c.loop-walk.walk (column t) (row t),
       omega (arith, row t),
       walked-column _ c.loop-walk.walk c.loop-walk.invariant.1 (inside t),
@@ -73,6 +73,6 @@ loop-walk-preserved c =
     let on = past (goal.at.loop-walk-preserved c).After-carry-walk in
     let bit = ap (λ (k : ℕ). get_or x.work.now k 0) (c.number.ensures ∙ read_at (goal.at.loop-walk-preserved c).After-position_in-position (column (goal.at.loop-walk-preserved c).In-loop-walk)) in (
       omega (arith, on, c.loop-walk-test.true),
-      c.carry-walk.ensures.1,
+      rw c.rows.ensures at c.carry-walk.ensures.1,
       rw (c.next-state.ensures, on) (end-next ρ x.work.now x.to i c.loop-walk.state c.loop-walk-test.true bit) ∙ c.loop-walk.invariant.2,
     )
