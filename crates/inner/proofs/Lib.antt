@@ -4,5 +4,4 @@ pub mod Linear
 pub mod Reading
 pub mod Registers
 pub mod Runs
-pub mod Tables
 pub mod Turns

@@ -3,11 +3,10 @@
 ghost use Rattle.std.specs.Prelude.{◌≡◌, ◌++◌, ℕ, ◌+◌, ◌*◌, ◌≤◌, ◌<◌, length, drop};
 ghost use Rattle.acm.specs.Formats.{format_of, N1};
 ghost use Rattle.trellis.specs.Trellis.{ends};
-ghost use Rattle.interleaver.specs.Interleaver.{π};
 ghost use Rattle.interleaver.specs.Walk.{Walked};
 ghost use Rattle.coder.specs.Coder.{state_in};
 ghost use Rattle.inner.specs.Registers.{from_outer};
-ghost use Rattle.inner.specs.Lent.{Lent, Stands, completes};
+ghost use Rattle.inner.specs.Lent.{Lent, Stands, completes, π_of};
 ghost use Rattle.inner.specs.Left.{starting, reads};
 
 use crate::Parameters;
@@ -54,16 +53,16 @@ impl Progress {
     // the first and the last of them apart, since a run begins and ends anywhere in one.
     pub fn advance(
         self,
-        parameters: &Parameters,
+        parameters: &Parameters<'_>,
         work: &[u8],
         out: &mut [u8],
         to: usize,
     ) -> Progress
-        requires lent { Lent parameters.now.format.number work.now out.old }
-        requires stands { Stands parameters.now work.now self × (self.walk.position.0 ≤ to) × (to ≤ (format_of parameters.now.format.number).i) }
+        requires lent { Lent parameters.now.figures work.now out.old }
+        requires stands { Stands parameters.now work.now self × (self.walk.position.0 ≤ to) × (to ≤ parameters.now.figures.i) }
         ensures stands_2 { Stands parameters.now work.now result × (result.walk.position.0 ≡ to) }
-        ensures out_after { completes parameters.now.format.number work.now result out.new ≡ completes parameters.now.format.number work.now self out.old }
-        ensures state_value { state_in result.coder ≡ ends (state_in self.coder) (reads (π parameters.now.format.number) work.now to self.walk.position.0) }
+        ensures out_after { completes parameters.now work.now result out.new ≡ completes parameters.now work.now self out.old }
+        ensures state_value { state_in result.coder ≡ ends (state_in self.coder) (reads (π_of parameters.now) work.now to self.walk.position.0) }
     {
         let mut at = self;
         while at.walk.position.0 < to {
@@ -74,12 +73,18 @@ impl Progress {
     }
 
     // The run to a later position of the same column, or to its end.
-    fn stretch(self, parameters: &Parameters, work: &[u8], out: &mut [u8], to: usize) -> Progress
-        requires lent { Lent parameters.now.format.number work.now out.old }
-        requires stands { Stands parameters.now work.now self × (self.walk.position.0 < to) × (to ≤ (format_of parameters.now.format.number).i) × (to ≤ length parameters.now.permutation.alpha.now * (self.walk.column + 1)) }
+    fn stretch(
+        self,
+        parameters: &Parameters<'_>,
+        work: &[u8],
+        out: &mut [u8],
+        to: usize,
+    ) -> Progress
+        requires lent { Lent parameters.now.figures work.now out.old }
+        requires stands { Stands parameters.now work.now self × (self.walk.position.0 < to) × (to ≤ parameters.now.figures.i) × (to ≤ length parameters.now.permutation.alpha.now * (self.walk.column + 1)) }
         ensures stands_2 { Stands parameters.now work.now result × (result.walk.position.0 ≡ to) }
-        ensures out_after { completes parameters.now.format.number work.now result out.new ≡ completes parameters.now.format.number work.now self out.old }
-        ensures state_value { state_in result.coder ≡ ends (state_in self.coder) (reads (π parameters.now.format.number) work.now to self.walk.position.0) }
+        ensures out_after { completes parameters.now work.now result out.new ≡ completes parameters.now work.now self out.old }
+        ensures state_value { state_in result.coder ≡ ends (state_in self.coder) (reads (π_of parameters.now) work.now to self.walk.position.0) }
     {
         let rate = parameters.rate;
         let mut walk = self.walk;

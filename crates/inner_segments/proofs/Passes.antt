@@ -5,12 +5,10 @@ use Prim.Native.Nat.{ℕ, ◌-◌, ◌≤◌}
 use native.Mathlib.Omega.{arith}
 use lib.ListN.{length, take}
 use lib.Seq.{take_at, drop_at}
-use Rattle.acm.specs.Formats.{format_of}
 use Rattle.trellis.specs.Trellis.{State, zero-state, ends}
 use Rattle.coder.specs.Coder.{state_in}
-use Rattle.interleaver.specs.Interleaver.{π}
 use Rattle.inner.specs.Left.{starting, reads}
-use Rattle.inner.specs.Lent.{Stands, completes}
+use Rattle.inner.specs.Lent.{π_of, Stands, completes}
 use Rattle.inner.specs.Registers.{read_from, interleaved}
 use Rattle.inner.specs.declared.parameters.Parameters.{Parameters}
 use Rattle.inner.specs.declared.steps.Progress.{Progress}
@@ -39,35 +37,32 @@ restarted-is at x e =
 -- the second pass where a segment begins: it has left to store what the plain run has, and is in that run's state
 pub record Along (p : Parameters) (work out₀ : List ℕ) (at₀ : Progress) (out : List ℕ) (at : Progress) : Type 0 where
   pub stands : Stands p work at
-  pub state : state_in at.coder ≡ ends zero-state (take at.walk.position.0 (interleaved (format_of p.format.number) (π p.format.number) work))
+  pub state : state_in at.coder ≡ ends zero-state (take at.walk.position.0 (interleaved p.figures (π_of p) work))
   pub same : length out ≡ length out₀
-  pub completing : completes p.format.number work at out ≡ completes p.format.number work at₀ out₀
+  pub completing : completes p work at out ≡ completes p work at₀ out₀
 
-pub along_start : {p : Parameters} {work : List ℕ} {at : Progress} → Stands p work at → at.coder ≡ starting (format_of p.format.number) → at.walk.position.0 ≡ 0 → (out : List ℕ)
+pub along_start : {p : Parameters} {work : List ℕ} {at : Progress} → Stands p work at → at.coder ≡ starting p.figures → at.walk.position.0 ≡ 0 → (out : List ℕ)
     → Along p work out at out at
 along_start stands coder position out = record { stands = stands; state = rw (coder, position); same = refl; completing = refl }
 
 -- and so where it ends
 module _ {p : Parameters} {work out₀ : List ℕ} {at₀ : Progress} {out : List ℕ} {at : Progress} (a : Along p work out₀ at₀ out at) (to : ℕ)
-    (up : at.walk.position.0 ≤ to) (low : to ≤ (format_of p.format.number).i) {from : Progress} (is : from ≡ at) where
-  abbrev f : ℕ
-  f = p.format.number
-
+    (up : at.walk.position.0 ≤ to) (low : to ≤ p.figures.i) {from : Progress} (is : from ≡ at) where
   abbrev bits : List ℕ
-  bits = interleaved (format_of f) (π f) work
+  bits = interleaved p.figures (π_of p) work
 
   pub along_next : {new : List ℕ} {end : Progress} → Stands p work end → end.walk.position.0 ≡ to → length new ≡ length out
-      → completes f work end new ≡ completes f work from out
-      → state_in end.coder ≡ ends (state_in from.coder) (reads (π f) work to from.walk.position.0) → Along p work out₀ at₀ new end
+      → completes p work end new ≡ completes p work from out
+      → state_in end.coder ≡ ends (state_in from.coder) (reads (π_of p) work to from.walk.position.0) → Along p work out₀ at₀ new end
   along_next {new} {end} stands position same completing state =
       let here = at.walk.position.0 in
       record {
         stands = stands;
         state =
-            state ∙ ap (λ (q : Progress). ends (state_in q.coder) (reads (π f) work to q.walk.position.0)) is
-            ∙ ap (λ (l : List ℕ). ends (state_in at.coder) l) (reads-between (π f) work (format_of f).i here to up low)
+            state ∙ ap (λ (q : Progress). ends (state_in q.coder) (reads (π_of p) work to q.walk.position.0)) is
+            ∙ ap (λ (l : List ℕ). ends (state_in at.coder) l) (reads-between (π_of p) work p.figures.i here to up low)
             ∙ ap (λ (x : State). ends x (between here to bits)) a.state
             ∙ ends-between bits here to up ∙ ap (λ (n : ℕ). ends zero-state (take n bits)) (sym position);
         same = same ∙ a.same;
-        completing = completing ∙ ap (λ (q : Progress). completes f work q out) is ∙ a.completing;
+        completing = completing ∙ ap (λ (q : Progress). completes p work q out) is ∙ a.completing;
       }

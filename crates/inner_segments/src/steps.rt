@@ -1,12 +1,13 @@
 // Opened to the segmented encoder alone: the two passes over the inner trellis.
 ghost use Rattle.std.specs.Prelude.{◌≡◌, true, ◌++◌, ◌≤◌, length, drop};
+ghost use Rattle.std.proofs.lemmas.List.Edits.{sets};
 ghost use Rattle.bits.specs.Legal.{all_bits};
 ghost use Rattle.acm.specs.Formats.{format_of, N1};
 ghost use Rattle.trellis.specs.Trellis.{ends};
 ghost use Rattle.interleaver.specs.Interleaver.{π};
 ghost use Rattle.interleaver.specs.Walk.{Walked};
-ghost use Rattle.inner.specs.Left.{reads};
-ghost use Rattle.inner.specs.Lent.{Lent};
+ghost use Rattle.inner.specs.Left.{starting, reads, Fits};
+ghost use Rattle.inner.specs.Lent.{Lent, π_of, written};
 ghost use Rattle.inner.specs.Registers.{interleaved, from_outer};
 ghost use Rattle.cuts.specs.Cuts.{Cuts, end_states, start_states, padded, states_of};
 ghost use Rattle.inner_segments.specs.Passes.{restarted};
@@ -38,9 +39,9 @@ pub fn encode(format: AcmFormat, cuts: &[u16], work: &[u8], out: &mut [u8]) -> S
 }
 
 // The first pass: every segment from 00. Where each run ends. The walk over the positions goes on from segment to segment, the state does not.
-fn first(parameters: &Parameters, work: &[u8], cuts: &[u16]) -> [u8; SEGMENTS]
-    requires { ((format_of parameters.now.format.number).i ≤ length work.now) × Cuts (format_of parameters.now.format.number).i cuts.now }
-    ensures { result ≡ padded (end_states cuts.now (interleaved (format_of parameters.now.format.number) (π parameters.now.format.number) work.now)) }
+fn first(parameters: &Parameters<'_>, work: &[u8], cuts: &[u16]) -> [u8; SEGMENTS]
+    requires { (parameters.now.figures.i ≤ length work.now) × Cuts parameters.now.figures.i cuts.now }
+    ensures { result ≡ padded (end_states cuts.now (interleaved parameters.now.figures (π_of parameters.now) work.now)) }
 {
     let mut ended = [0; SEGMENTS];
     let mut walk = Walk::start();
@@ -68,10 +69,10 @@ impl Run {
     // The run over the bits up to a later position. The walk counts the positions: a `for` would count them once more. No fold over a list, as
     // the first pass of the outer trellis is: the bits lie in work at the places that the walk makes, and the next run goes on from where it
     // stands.
-    fn advance(self, parameters: &Parameters, work: &[u8], to: usize) -> Run
-        requires { Walked (length parameters.now.permutation.alpha.now) self.walk × (self.walk.position.0 ≤ to) × (to ≤ (format_of parameters.now.format.number).i) × ((format_of parameters.now.format.number).i ≤ length work.now) }
+    fn advance(self, parameters: &Parameters<'_>, work: &[u8], to: usize) -> Run
+        requires { Walked (length parameters.now.permutation.alpha.now) self.walk × (self.walk.position.0 ≤ to) × (to ≤ parameters.now.figures.i) × (parameters.now.figures.i ≤ length work.now) }
         ensures walked { Walked (length parameters.now.permutation.alpha.now) result.walk × (result.walk.position.0 ≡ to) }
-        ensures state_value { result.state ≡ ends self.state (reads (π parameters.now.format.number) work.now to self.walk.position.0) }
+        ensures state_value { result.state ≡ ends self.state (reads (π_of parameters.now) work.now to self.walk.position.0) }
     {
         let mut walk = self.walk;
         let mut state = self.state;
@@ -88,10 +89,11 @@ impl Run {
 
 // The second pass: every segment from its own start. The registers' places and the counter of rate matching go on from segment to segment,
 // the trellis' state does not.
-fn second(parameters: &Parameters, work: &[u8], out: &mut [u8], cuts: &[u16], started: &[u8])
-    requires lent { Lent parameters.now.format.number work.now out.old }
-    requires cuts { Cuts (format_of parameters.now.format.number).i cuts.now × (started.now ≡ padded (start_states cuts.now (interleaved (format_of parameters.now.format.number) (π parameters.now.format.number) work.now))) }
-    ensures { out.new ≡ from_outer parameters.now.format.number work.now ++ drop (N1 (format_of parameters.now.format.number)) out.old }
+fn second(parameters: &Parameters<'_>, work: &[u8], out: &mut [u8], cuts: &[u16], started: &[u8])
+    requires lent { Lent parameters.now.figures work.now out.old }
+    requires fits { Fits parameters.now.figures (π_of parameters.now) work.now 0 (starting parameters.now.figures) }
+    requires cuts { Cuts parameters.now.figures.i cuts.now × (started.now ≡ padded (start_states cuts.now (interleaved parameters.now.figures (π_of parameters.now) work.now))) }
+    ensures { out.new ≡ sets out.old 0 (written parameters.now work.now) }
 {
     let mut at = Progress::start(parameters.figures);
     for (to, &start) in Stops::of(cuts, parameters.figures.i).zip(started) {

@@ -1,9 +1,7 @@
 use mathlib.Core.Path.{◌≡◌, ap, ◌∙◌}
 use Rattle.std.specs.Iterator.Adapters.{enumerate_source, enumerate_count}
-use Rattle.acm.specs.Formats.{format_of}
-use Rattle.acm.specs.declared.table.Format.{Format}
 use Rattle.trellis.specs.Trellis.{zero-state, state_number, ends}
-use Rattle.interleaver.specs.Interleaver.{π}
+use Rattle.inner.specs.Lent.{π_of}
 use Rattle.inner.proofs.Reading.{read_length}
 use Rattle.cuts.specs.Cuts.{stops}
 use Rattle.cuts.proofs.Segments.{ahead_start, ahead_up, ahead_low, ahead_next, cuts_few}
@@ -16,14 +14,14 @@ pub loop-j-init : goal.loop-j-init
 loop-j-init c =
     let p = c.args.parameters.now in
     let cuts = c.args.cuts.now in
-    let i = (format_of p.format.number).i in
+    let i = p.figures.i in
     let (position, walked) = c.start-walk.ensures in
-    let all : enumerate_source c.into_iter-j-iterator.result ≡ stops i cuts = cc (ap (λ (r : Format). stops r.i cuts) p.figures_are) in
+    let all : enumerate_source c.into_iter-j-iterator.result ≡ stops i cuts = cc in
     let none : enumerate_count c.into_iter-j-iterator.result ≡ 0 = cc in
     record {
       ahead = rw (all, position) (ahead_start c.requires.1);
       walked = walked _;
-      ending = rw (all, none, position) (ending_start cuts _ (read_length (π p.format.number) c.args.work.now 0 i));
+      ending = rw (all, none, position) (ending_start cuts _ (read_length (π_of p) c.args.work.now 0 i));
     }
 
 pub bounds-ended-j : goal.bounds-ended-j
@@ -31,11 +29,11 @@ bounds-ended-j c = rw c.in-Some.ensures.steps.1 (ending_room c.loop-j.invariant.
 
 pub loop-j-preserved : goal.loop-j-preserved
 loop-j-preserved c =
-    let f = c.args.parameters.now.format.number in
+    let p = c.args.parameters.now in
     let i = c.loop-j.invariant in
     let (is, here, on, _) = c.in-Some.ensures.steps in
     let (walked, position) = c.advance-end.ensures.walked in
-    let bits = reads-between (π f) c.args.work.now (format_of f).i c.loop-j.walk.position.0 c.in-Some.to (ahead_up i.ahead is) (ahead_low i.ahead is) in
+    let bits = reads-between (π_of p) c.args.work.now p.figures.i c.loop-j.walk.position.0 c.in-Some.to (ahead_up i.ahead is) (ahead_low i.ahead is) in
     let state = c.from.ensures ∙ ap state_number (c.advance-end.ensures.state_value ∙ ap (ends zero-state) bits) in
     record { ahead = rw position (ahead_next i.ahead is); walked = walked; ending = rw (position, here, on) (ending_on i.ending is state) }
 

@@ -1,8 +1,7 @@
 -- At each segment, the pass is the plain run, which is in the segment's starting state: setting it there changes nothing.
 use Rattle.std.specs.Slice.Iter.{iter_rest}
 use Rattle.std.specs.Iterator.Adapters.{zip_first, zip_second}
-use Rattle.acm.specs.Formats.{format_of}
-use Rattle.interleaver.specs.Interleaver.{π}
+use Rattle.inner.specs.Lent.{π_of}
 use Rattle.inner.specs.Registers.{interleaved}
 use Rattle.cuts.proofs.Segments.{Ahead}
 use Rattle.cuts.proofs.Sixteen.{Starting}
@@ -12,10 +11,9 @@ use Rattle.inner_segments.proofs.steps.second.Given as goal
 abbrev pub invariant-loop-to : goal.invariant-loop-to
 invariant-loop-to l =
     let p = l.parameters in
-    let r = format_of p.format.number in
     let ends = zip_first l.to-iterator in
     let from = l.at.walk.position.0 in record {
-      ahead : Ahead r.i from ends;
-      starting : Starting (interleaved r (π p.format.number) l.work) from ends (iter_rest (zip_second l.to-iterator));
+      ahead : Ahead p.figures.i from ends;
+      starting : Starting (interleaved p.figures (π_of p) l.work) from ends (iter_rest (zip_second l.to-iterator));
       along : Along p l.work l.initial.out l.initial.at l.out l.at;
     }

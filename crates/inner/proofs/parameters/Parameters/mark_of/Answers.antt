@@ -1,11 +1,9 @@
 -- The residue is one that the pattern laid out has, and its mark is that of the interleaved position.
-use mathlib.Core.Path.{ap, ◌∙◌}
-use Prim.Native.Nat.{ℕ, ◌*◌, ◌%◌, ◌<◌}
+use Prim.Native.Nat.{◌*◌, ◌<◌}
 use native.Mathlib.Omega.{arith}
 use Rattle.puncture.specs.Puncture.{period}
 use Rattle.puncture.proofs.Laid.{laid_survives}
 use Rattle.puncture.proofs.Zeroed.{pattern-low}
-use Rattle.inner.proofs.Tables.{π-is}
 use Rattle.inner.proofs.parameters.Parameters.mark_of.Goals.{After-residue_of-residue}
 use Rattle.inner.proofs.parameters.Parameters.mark_of.Goals as goal
 
@@ -25,4 +23,4 @@ pub returns-clause-value : goal.returns-clause-value
 returns-clause-value c row of =
     let p = c.args.self.now in
     let leaves = c.residue_of-residue.ensures.leaves period row p.residues_are of in
-    laid_survives _ _ p.pattern_is _ _ (low (goal.at.returns-clause-value c).After-residue_of-residue) (leaves ∙ ap (λ (k : ℕ). k % period) (π-is p _))
+    laid_survives _ _ p.pattern_is _ _ (low (goal.at.returns-clause-value c).After-residue_of-residue) leaves

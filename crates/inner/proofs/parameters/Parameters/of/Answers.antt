@@ -1,14 +1,10 @@
-use mathlib.Core.Path.{◌≡◌}
-use lib.ListN.{length}
-use Rattle.interleaver.proofs.Formats.{format-rows}
+use mathlib.Core.Path.{sym}
+use Rattle.acm.proofs.Laws.{format-sound}
+use Rattle.interleaver.proofs.Formats.{format-length}
 use Rattle.inner.proofs.parameters.Parameters.of.Goals as goal
 
-pub invariant_of-result-clause-residues_are : goal.invariant_of-result-clause-residues_are
-invariant_of-result-clause-residues_are c =
-    let is = c.record-figures.ensures in
-    let v = c.of_format-permutation.ensures in
-    let rows : length c.of_format-permutation.result.alpha.now ≡ c.record-figures.result.w = rw is (format-rows _ c.args.format.listed v.alpha_value v.beta_value) in
-    rw rows c.multiples.ensures
-
-pub invariant_of-result-clause-pattern_is : goal.invariant_of-result-clause-pattern_is
-invariant_of-result-clause-pattern_is c = rw c.record-figures.ensures at c.laid_out.ensures
+pub over-requires : goal.over-requires
+over-requires c =
+    let h = c.args.format.listed in
+    let v = c.of_format.ensures in
+    rw c.record.ensures (sym (format-length _ h v.alpha_value v.beta_value), (format-sound _ h).deletes)

@@ -4,13 +4,12 @@ use native.Mathlib.Omega.{arith}
 use lib.ListN.{length}
 use Rattle.acm.specs.Formats.{M}
 use Rattle.trellis.specs.Trellis.{State, ends}
-use Rattle.interleaver.specs.Interleaver.{π}
 use Rattle.interleaver.specs.Walk.{InColumn}
 use Rattle.interleaver.proofs.Walks.{walked_row, in_column}
 use Rattle.coder.specs.Coder.{state_in}
 use Rattle.inner.specs.Left.{reads}
+use Rattle.inner.specs.Lent.{π_of}
 use Rattle.inner.proofs.Reading.{end_later}
-use Rattle.inner.proofs.Tables.{size}
 use Rattle.inner.proofs.steps.Progress.advance.Goals.{After-stop-end, In-loop-at}
 use Rattle.inner.proofs.steps.Progress.advance.Goals as goal
 
@@ -20,7 +19,7 @@ module _ (t : In-loop-at) where
   W = length t.args.parameters.now.permutation.alpha.now
 
   inside : t.loop-at.at.walk.position.0 < M * W
-  inside = omega (arith, t.loop-at-test.true, t.requires.stands.2, size t.args.parameters.now)
+  inside = omega (arith, t.loop-at-test.true, t.requires.stands.2, t.args.parameters.now.size)
 
   column : InColumn W t.loop-at.at.walk
   column = in_column W t.loop-at.at.walk t.loop-at.invariant.1.walked inside
@@ -65,7 +64,7 @@ loop-at-smaller c =
 pub loop-at-preserved : goal.loop-at-preserved
 loop-at-preserved c =
     let x = c.args in
-    let ρ = π x.parameters.now.format.number in
+    let ρ = π_of x.parameters.now in
     let work = x.work.now in
     let from = c.loop-at.at in
     let i = c.loop-at.invariant in

@@ -2,13 +2,13 @@ use mathlib.Core.Path.{◌≡◌, sym, ap, ◌∙◌}
 use Prim.Native.Nat.{ℕ, ◌+◌, ◌*◌, ◌<◌}
 use native.Mathlib.Omega.{arith}
 use lib.ListN.{length, get_or}
-use Rattle.acm.specs.Formats.{M, format_of}
-use Rattle.interleaver.specs.Interleaver.{π}
+use Rattle.acm.specs.Formats.{M}
 use Rattle.interleaver.specs.Walk.{InColumn}
 use Rattle.interleaver.specs.declared.steps.Walk.{Walk}
 use Rattle.interleaver.proofs.Walks.{walked_row, walked-column, in_column, in_column_down}
+use Rattle.inner.specs.Lent.{π_of}
 use Rattle.inner.proofs.Reading.{end-next}
-use Rattle.inner.proofs.Tables.{size, π-is, π-low}
+use Rattle.inner.proofs.Runs.{position_low}
 use Rattle.inner_segments.proofs.steps.Run.advance.Goals.{After-position_in-position, After-carry-walk, In-loop-walk}
 use Rattle.inner_segments.proofs.steps.Run.advance.Goals as goal
 
@@ -17,11 +17,11 @@ module _ (t : In-loop-walk) where
   abbrev W : ℕ
   W = length t.args.parameters.now.permutation.alpha.now
 
-  below : t.loop-walk.walk.position.0 < (format_of t.args.parameters.now.format.number).i
+  below : t.loop-walk.walk.position.0 < t.args.parameters.now.figures.i
   below = omega (arith, t.loop-walk-test.true, t.requires.2)
 
   inside : t.loop-walk.walk.position.0 < M * W
-  inside = omega (arith, below, size t.args.parameters.now)
+  inside = omega (arith, below, t.args.parameters.now.size)
 
   column : InColumn W t.loop-walk.walk
   column = in_column W t.loop-walk.walk t.loop-walk.invariant.1 inside
@@ -31,10 +31,10 @@ module _ (t : In-loop-walk) where
 
 -- the position that is read
 read_at : (c : After-position_in-position) → InColumn (length c.args.parameters.now.permutation.alpha.now) c.loop-walk.walk
-    → c.position_in-position.result.0 ≡ π c.args.parameters.now.format.number c.loop-walk.walk.position.0
+    → c.position_in-position.result.0 ≡ π_of c.args.parameters.now c.loop-walk.walk.position.0
 read_at c column =
     let p = c.args.parameters.now in
-    rw (c.column.ensures, c.row.ensures) at c.position_in-position.ensures ∙ π-is p _ ∙ ap (π p.format.number) (sym column.position-is)
+    rw (c.column.ensures, c.row.ensures) at c.position_in-position.ensures ∙ ap (π_of p) (sym column.position-is)
 
 -- one position on
 past : (c : After-carry-walk) → c.carry-walk.result.position.0 ≡ c.loop-walk.walk.position.0 + 1
@@ -48,7 +48,7 @@ position_in-position-requires c =
 pub bounds-work-number : goal.bounds-work-number
 bounds-work-number c =
     let t = (goal.at.bounds-work-number c).In-loop-walk in
-    let low = π-low c.args.parameters.now c.loop-walk.walk.position.0 (below t) in
+    let low = position_low c.args.parameters.now c.loop-walk.walk.position.0 (below t) in
     omega (arith, c.number.ensures, read_at (goal.at.bounds-work-number c).After-position_in-position (column t), low, c.requires.3)
 
 pub down-requires : goal.down-requires
@@ -68,7 +68,7 @@ carry-walk-requires c =
 pub loop-walk-preserved : goal.loop-walk-preserved
 loop-walk-preserved c =
     let x = c.args in
-    let ρ = π x.parameters.now.format.number in
+    let ρ = π_of x.parameters.now in
     let i = c.loop-walk.walk.position.0 in
     let on = past (goal.at.loop-walk-preserved c).After-carry-walk in
     let bit = ap (λ (k : ℕ). get_or x.work.now k 0) (c.number.ensures ∙ read_at (goal.at.loop-walk-preserved c).After-position_in-position (column (goal.at.loop-walk-preserved c).In-loop-walk)) in (
