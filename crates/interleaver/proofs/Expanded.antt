@@ -74,6 +74,9 @@ module _ (f : ℕ) (memory : List ℕ) (holds : expands f memory ≡ true) where
   pub holds_already : memory ≡ expanded f ++ drop (format_of f).i memory
   holds_already = sym (take-append-drop (format_of f).i memory) ∙ ap (λ (l : List ℕ). l ++ drop (format_of f).i memory) front
 
+-- what reading an entry needs
+pub ruleset entries_held = (holds-room, holds-entry)
+
 -- what is built for one format holds it for each of its size
 module _ (f g : ℕ) (known-f : is_format f ≡ true) (known-g : is_format g ≡ true) (sizes : (format_of f).i ≡ (format_of g).i) where
   pub one_interleaver : π f ≡ π g

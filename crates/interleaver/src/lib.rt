@@ -11,6 +11,7 @@ use acm::AcmFormat;
 use annex_c_tables::steps::SizeVectors;
 use bits::Refusal;
 
+mod memory;
 mod place;
 pub mod steps;
 

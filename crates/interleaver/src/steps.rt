@@ -1,13 +1,13 @@
 // Opened to the inner encoder and the expanded interleaver alone: a format's interleaver, a walk over its positions in order, and an expanded
-// interleaver's entries.
-ghost use Rattle.std.specs.Prelude.{◌≡◌, true, ℕ, ◌+◌, ◌*◌, ◌%◌, ◌≤◌, ◌<◌, min, length, get_or};
+// interleaver.
+ghost use Rattle.std.specs.Prelude.{◌≡◌, ℕ, ◌+◌, ◌*◌, ◌%◌, ◌≤◌, ◌<◌, min, length, get_or};
 ghost use Rattle.acm.specs.Formats.{M, format_of};
 ghost use Rattle.annex_c.specs.AnnexC.{Vectors, widest, size_of};
-ghost use Rattle.interleaver.specs.Interleaver.{permuted, π};
-ghost use Rattle.interleaver.specs.Expanded.{expands};
+ghost use Rattle.interleaver.specs.Interleaver.{permuted};
 ghost use Rattle.interleaver.specs.Place.{OfRow};
 ghost use Rattle.interleaver.specs.Walk.{Walked, InColumn, Multiples, down_one};
 
+pub use crate::memory::Expanded;
 pub use crate::place::Place;
 use crate::{InterleavedPosition, M, UpperPosition};
 use acm::AcmFormat;
@@ -156,14 +156,6 @@ impl Walk {
             column: self.column + 1,
         }
     }
-}
-
-// The interleaved position that a memory holds, once it is known to hold the format's.
-pub fn held(format: AcmFormat, memory: &[u16], position: UpperPosition) -> InterleavedPosition
-    requires { (expands format.number memory.now ≡ true) × (position.0 < (format_of format.number).i) }
-    ensures { result.0 ≡ π format.number position.0 }
-{
-    InterleavedPosition(usize::from(memory[position.0]))
 }
 
 // W × bank modulo a period, for each of the banks, made by adding W.

@@ -9,6 +9,7 @@ ghost use Rattle.sharing.specs.Calls.{shared_number, answer_of, shared, shared_w
 
 use acm::AcmFormat;
 use bits::Refusal;
+use interleaver::steps::Expanded;
 
 // The codeword of an information block, by the expanded interleaver that a memory holds: held names its size, 0 for none, a number as C has it.
 // One of another size is built anew first. Answers the size that the memory holds then.
@@ -34,7 +35,7 @@ pub fn encode_shared(
     encoder::steps::put_pieces(format, block, out);
     let k1 = format.record().k1;
     trellis::steps::outer(&block[..k1], work);
-    inner_expanded::steps::encode(format, memory, work, out);
+    inner_expanded::steps::encode(&Expanded::of(format, memory), work, out);
     Ok(size)
 }
 

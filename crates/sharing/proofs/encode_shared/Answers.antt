@@ -67,15 +67,18 @@ outer-requires-clause-block_in_bounds c =
     let p = encode_passed _ _ _ _ s.encodes in
     rw (lent_is _ c.args.block.now c.record-k1.ensures) (omega (arith, outer-long _ p.known c.args.block.now p.long, p.work-fits))
 
-pub encode-requires : goal.encode-requires
-encode-requires c =
+pub of-requires : goal.of-requires
+of-requires c =
     let n = c.in_ok-format.format.number in
     let s = shared_passed-at c.in_ok-format.ensures.known c.in_ok-format.ensures.number in
-    let p = encode_passed _ _ _ _ s.encodes in (
-      rw c.prepare-size.ensures.memory_after (built_holds n n p.known p.known refl _),
-      omega (arith, c.outer.auto.work, p.work-fits),
-      trellis-room _ p.known (omega (arith, c.put_pieces.auto.out, p.out-fits)),
-    )
+    let p = encode_passed _ _ _ _ s.encodes in
+    rw c.prepare-size.ensures.memory_after (built_holds n n p.known p.known refl _)
+
+pub encode-requires : goal.encode-requires
+encode-requires c =
+    let s = shared_passed-at c.in_ok-format.ensures.known c.in_ok-format.ensures.number in
+    let p = encode_passed _ _ _ _ s.encodes in
+    rw c.of.ensures (omega (arith, c.outer.auto.work, p.work-fits), trellis-room _ p.known (omega (arith, c.put_pieces.auto.out, p.out-fits)))
 
 pub returns-clause-answer : goal.returns-clause-answer
 unfolding shared
@@ -103,7 +106,7 @@ returns-clause-output c =
     let s = shared_passed-at is c.in_ok-format.ensures.number in
     let p = encode_passed _ _ _ _ s.encodes in
     rw (← is) (
-    c.encode.ensures
+    rw c.of.ensures at c.encode.ensures
     ∙ ap₂ (λ (l out : List ℕ). from_outer n l ++ drop (N1 (format_of n)) out)
     (c.outer.ensures ∙ work-written _ p.known c.args.block.now p.long c.args.work.now c.record-k1.ensures) c.put_pieces.ensures
     ∙ both-written n p.known c.args.block.now p.long _ c.args.out.now p.out-fits

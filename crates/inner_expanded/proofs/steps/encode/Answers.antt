@@ -12,10 +12,11 @@ use Rattle.inner_expanded.proofs.steps.encode.Goals as goal
 pub returns : goal.returns
 unfolding from_outer
 returns c =
-    let f = c.args.format.number in
+    let format = c.args.expanded.now.format in
+    let f = format.number in
     let work = c.args.work.now in
     c.finish.ensures
     ∙ sym (completed-end (format_of f) (π f) work (format_of f).i c.run-end.result _ (omega arith))
     ∙ c.run-end.ensures.out_after
-    ∙ completed_start (format_of f) (π f) work c.args.out.now (omega (arith, (format-sound f c.args.format.listed).deletes)) (fits_whole f c.args.format.listed work)
-    ∙ front-written f c.args.format.listed work c.args.out.now c.requires.2
+    ∙ completed_start (format_of f) (π f) work c.args.out.now (omega (arith, (format-sound f format.listed).deletes)) (fits_whole f format.listed work)
+    ∙ front-written f format.listed work c.args.out.now c.requires.1

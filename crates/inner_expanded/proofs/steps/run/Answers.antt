@@ -19,30 +19,34 @@ use Rattle.inner_expanded.proofs.steps.run.Goals as goal
 
 -- the position that is read
 module _ (n : After-number-position) where
-  more : n.loop-i.i < (format_of n.args.format.number).i
+  abbrev f : ℕ
+  f = n.args.expanded.now.format.number
+
+  more : n.loop-i.i < (format_of f).i
   more = omega (arith, n.loop-i-test.true, ap (λ (r : Format). r.i) n.record-f.ensures)
 
   abbrev position : ℕ
-  position = π n.args.format.number n.loop-i.i
+  position = π f n.loop-i.i
 
   position-is : n.number-position.result ≡ position
-  position-is = n.number-position.ensures ∙ n.held.ensures
+  position-is = n.number-position.ensures ∙ n.position_of.ensures
 
   position-low : n.number-position.result < length n.args.work.now
-  position-low = omega (arith, position-is, (π-permutes _ n.args.format.listed).below _ more, n.requires.format_in_bounds.0)
+  position-low = omega (arith, position-is, (π-permutes _ n.args.expanded.now.format.listed).below _ more, n.requires.room.0)
 
   -- and its mark
   abbrev mark : ℕ
   mark = get_or n.args.pattern.now (n.number-position.result % period) 0
 
-  mark-is : mark ≡ get_or (pattern (format_of n.args.format.number).survivors) (position % period) 0
-  mark-is = ap₂ (λ (l : List ℕ) (k : ℕ). get_or l (k % period) 0) n.requires.format_value.1 position-is
+  mark-is : mark ≡ get_or (pattern (format_of f).survivors) (position % period) 0
+  mark-is = ap₂ (λ (l : List ℕ) (k : ℕ). get_or l (k % period) 0) n.requires.pattern_value position-is
 
 pub loop-i-init : goal.loop-i-init
 loop-i-init c =
-    let f = c.args.format.number in
+    let format = c.args.expanded.now.format in
+    let f = format.number in
     let coder = c.start-coder.ensures.0 ∙ ap starting c.record-f.ensures in
-    let fits = fits_whole f c.args.format.listed c.args.work.now in
+    let fits = fits_whole f format.listed c.args.work.now in
     rw coder (fits.counter_low, going_start (format_of f) (π f) c.args.work.now c.args.out.now 0 (starting (format_of f)) fits)
 
 pub bounds-work-position : goal.bounds-work-position
@@ -51,10 +55,11 @@ bounds-work-position c = position-low (goal.at.bounds-work-position c).After-num
 pub turn-coder-requires : goal.turn-coder-requires
 turn-coder-requires c =
     let a = c.args in
-    let f = a.format.number in
+    let format = a.expanded.now.format in
+    let f = format.number in
     let l = c.loop-i in
-    let sound = format-sound f c.args.format.listed in
-    let rooms = going_rooms (format_of f) (π f) a.work.now l.i l.coder l.invariant.1 c.requires.format_in_bounds.1 in (
+    let sound = format-sound f format.listed in
+    let rooms = going_rooms (format_of f) (π f) a.work.now l.i l.coder l.invariant.1 c.requires.room.1 in (
       omega (arith, mark-is (goal.at.turn-coder-requires c).After-number-position, pattern-low (format_of f).survivors (position (goal.at.turn-coder-requires c).After-number-position % period)),
       rooms.0,
       rooms.1,
@@ -64,9 +69,10 @@ turn-coder-requires c =
 pub loop-i-preserved : goal.loop-i-preserved
 loop-i-preserved c =
     let a = c.args in
-    let f = a.format.number in
+    let format = a.expanded.now.format in
+    let f = format.number in
     let l = c.loop-i in
-    let d = (format-sound f c.args.format.listed).deletes in
+    let d = (format-sound f format.listed).deletes in
     let bit = ap (λ (k : ℕ). get_or a.work.now k 0) (position-is (goal.at.loop-i-preserved c).After-number-position) in
     rw (c.turn-coder.ensures.value, c.turn-coder.ensures.out_after, c.of-rate.ensures.total_value, c.of-rate.ensures.delta_value) (
       counter_low (format_of f).i (format_of f).delta l.coder.counter (omega (arith, d)) l.invariant.0,

@@ -9,5 +9,5 @@ use Rattle.inner_expanded.proofs.steps.run.Given as goal
 
 abbrev pub invariant-loop-i : goal.invariant-loop-i
 invariant-loop-i l =
-    let r = format_of l.format.number in
-    (l.coder.counter < r.i) × Going r (π l.format.number) l.work (length l.initial.out) (completed r (π l.format.number) l.work 0 (starting r) l.initial.out) l.out l.i l.coder
+    let r = format_of l.expanded.format.number in
+    (l.coder.counter < r.i) × Going r (π l.expanded.format.number) l.work (length l.initial.out) (completed r (π l.expanded.format.number) l.work 0 (starting r) l.initial.out) l.out l.i l.coder
