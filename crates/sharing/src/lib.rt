@@ -39,7 +39,8 @@ pub fn encode_shared(
     Ok(size)
 }
 
-// Builds the expanded interleaver of a format, unless the memory holds it. Answers the size that it holds then.
+// Builds the expanded interleaver of a format, unless the memory holds it. Answers the size that it holds then. That it holds what `held` says is a
+// clause: an `Expanded` only lends a memory to be read, and this one is written where `held` says another size.
 fn prepare(format: AcmFormat, memory: &mut [u16], held: u64) -> u64
     requires { ((format_of format.number).i ≤ length memory.old) × (held ≡ (format_of format.number).i → expands format.number memory.old ≡ true) }
     ensures value { result ≡ (format_of format.number).i }
