@@ -3,12 +3,13 @@
 
 ghost use Rattle.std.specs.Prelude.{◌≡◌, ◌++◌, ◌≤◌, length, drop, IfOk};
 ghost use Rattle.bits.specs.Checks.{number_of};
-ghost use Rattle.header.specs.Descriptor.{pilots_on};
+ghost use Rattle.header.specs.Descriptor.{choice_number};
 ghost use Rattle.framing.specs.Frame.{frame_labels, frame_length, frame as frame_of};
 ghost use Rattle.framing.specs.Calls.{frame_number, frame_output, section_labels, section_number};
 
 use acm::{AcmFormat, SYMBOLS};
 use bits::Refusal;
+use header::Pilots;
 use pilots::steps::{SUBSECTION_LABELS, SUBSECTION_PILOTS};
 
 // Codeword sections of a frame.
@@ -37,21 +38,24 @@ pub fn frame(format: u64, pilots: u64, labels: &[u8], out: &mut [u16]) -> Result
     ensures number { number_of result ≡ frame_number format pilots labels.now (length out.old) }
     ensures output { out.new ≡ frame_output format pilots labels.now out.old }
 {
-    let format = check_frame(format, pilots, labels, out.len())?;
+    let (format, pilots) = check_frame(format, pilots, labels, out.len())?;
     put_frame(format, pilots, labels, out);
     Ok(())
 }
 
-// The format, if all checks of frame hold.
+// The format and the pilot choice, if all checks of frame hold.
 #[tactic(auto, using(std::proofs::lemmas::Bool::Decides::nat_tests), unfolding(crate::specs::Calls::frame_number))]
-fn check_frame(format: u64, pilots: u64, labels: &[u8], room: usize) -> Result<AcmFormat, Refusal>
+fn check_frame(
+    format: u64,
+    pilots: u64,
+    labels: &[u8],
+    room: usize,
+) -> Result<(AcmFormat, Pilots), Refusal>
     ensures number { number_of result ≡ frame_number format pilots labels.now room }
-    ensures known { IfOk result (λ f. f.number ≡ format) }
+    ensures known { IfOk result (λ known. (known.0.number ≡ format) × (choice_number known.1 ≡ pilots)) }
 {
     let format = AcmFormat::try_from(format)?;
-    if PILOTS_ON < pilots {
-        return Err(Refusal::Pilots);
-    }
+    let choice = Pilots::try_from(pilots)?;
     if labels.len() != FRAME_LABELS {
         return Err(Refusal::Length);
     }
@@ -61,7 +65,7 @@ fn check_frame(format: u64, pilots: u64, labels: &[u8], room: usize) -> Result<A
     if room < frame_length(pilots) {
         return Err(Refusal::Output);
     }
-    Ok(format)
+    Ok((format, choice))
 }
 
 // The slots of a frame with a pilot choice; of a number that is no choice, those of one without pilots.
@@ -76,15 +80,14 @@ pub fn frame_length(pilots: u64) -> usize
 }
 
 // The header and behind it the labels, with pilots or without, to the front of out.
-fn put_frame(format: AcmFormat, pilots: u64, labels: &[u8], out: &mut [u16])
-    requires { (pilots ≤ pilots_on) × (length labels.now ≡ frame_labels) × (frame_length pilots ≤ length out.old) }
-    ensures { out.new ≡ frame_of format.number pilots labels.now ++ drop (frame_length pilots) out.old }
+fn put_frame(format: AcmFormat, pilots: Pilots, labels: &[u8], out: &mut [u16])
+    requires { (length labels.now ≡ frame_labels) × (frame_length (choice_number pilots) ≤ length out.old) }
+    ensures { out.new ≡ frame_of format.number (choice_number pilots) labels.now ++ drop (frame_length (choice_number pilots)) out.old }
 {
     header::steps::put(format, pilots, out);
-    if pilots == PILOTS_ON {
-        pilots::steps::put(labels, out, header::steps::LENGTH);
-    } else {
-        pilots::steps::put_labels(labels, out, header::steps::LENGTH);
+    match pilots {
+        Pilots::On => pilots::steps::put(labels, out, header::steps::LENGTH),
+        Pilots::Off => pilots::steps::put_labels(labels, out, header::steps::LENGTH),
     }
 }
 

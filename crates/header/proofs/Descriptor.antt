@@ -17,7 +17,9 @@ use Rattle.bits.proofs.Lists.{drop-next}
 use Rattle.bits.proofs.Sums.{⊕*-bits, ⊕*-length, ⊕*_swap}
 use Rattle.bits.proofs.Table.{every, left-true, right_true}
 use Rattle.bits.proofs.Words.{bits-next, bits-xor}
-use Rattle.header.specs.Descriptor.{G, add_rows, code_length, coded, descriptor, descriptor_length, information, pilots_off, pilots_on, scrambling, twice}
+use Rattle.header.specs.declared.choice.Pilots.{Pilots}
+use Rattle.header.specs.declared.choice.Pilots.TheVariants as choice
+use Rattle.header.specs.Descriptor.{G, add_rows, choice_number, code_length, coded, descriptor, descriptor_length, information, pilots_off, pilots_on, scrambling, twice}
 use Rattle.header.specs.Words.{word_length}
 
 -- the bits of each row
@@ -68,6 +70,10 @@ twice-rows y (b ∷ bs) (row ∷ rows) =
     chosen : (t : Bool) → twice (if t then y ⊕* row else y) ≡ (if t then twice y ⊕* twice row else twice y)
     chosen true = twice-sum y row
     chosen false = refl
+
+pub choice-low : (c : Pilots) → choice_number c ≤ 1
+choice-low choice.Off = omega arith
+choice-low choice.On = omega arith
 
 -- b0 to b6 are the bits of one number
 information-bits : (f pilots : ℕ) → pilots ≤ 1 → bits_of 7 (2 * f + pilots) ≡ information f pilots

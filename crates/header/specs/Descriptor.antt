@@ -1,6 +1,8 @@
 -- The frame descriptor (5.2.1; 004, 5.3.3, whose code has one row more).
 use Rattle.std.specs.Prelude.{List, [], ◌∷◌, ℕ, ◌*◌, ◌/◌, ◌%◌, eqb, replicate, if◌then◌else◌}
 use Rattle.bits.specs.Sum.{◌⊕*◌}
+use Rattle.header.specs.declared.choice.Pilots.{Pilots}
+use Rattle.header.specs.declared.choice.Pilots.TheVariants as choice
 
 -- bits of the (32, 7) code, each of which is sent twice
 abbrev pub code_length : ℕ
@@ -15,6 +17,10 @@ pilots_off = 0
 
 abbrev pub pilots_on : ℕ
 pilots_on = 1
+
+abbrev pub choice_number : Pilots → ℕ
+choice_number choice.Off = pilots_off
+choice_number choice.On = pilots_on
 
 -- b0 to b6 (004, table 5-4): the six bits of the format number, the most significant first, and the bit for pilots
 abbrev pub information : ℕ → ℕ → List ℕ

@@ -2,10 +2,11 @@
 ghost use Rattle.std.specs.Prelude.{◌≡◌, map, ◌+◌, ◌*◌, ◌/◌, ◌%◌, ◌^◌, ◌≤◌, ◌<◌, length};
 ghost use Rattle.std.proofs.lemmas.List.Edits.{sets};
 ghost use Rattle.bits.specs.Words.{bits_of, unpacked};
-ghost use Rattle.header.specs.Descriptor.{add_rows, descriptor, pilots_on};
+ghost use Rattle.header.specs.Descriptor.{add_rows, choice_number, descriptor};
 ghost use Rattle.header.specs.Header.{header, header_code, header_length, header_slots};
 ghost use Rattle.header.specs.Words.{word_length};
 
+use crate::choice::Pilots;
 use acm::AcmFormat;
 
 const WORD_LENGTH: usize = 64;
@@ -45,20 +46,19 @@ const ROWS: [u64; 7] = [
 const SCRAMBLING: u64 = 0x719D83C953422DFA;
 
 // The header of a format and a pilot choice, to the front of out.
-pub fn put(format: AcmFormat, pilots: u64, out: &mut [u16])
-    requires { (pilots ≤ pilots_on) × (header_length ≤ length out.old) }
-    ensures { out.new ≡ sets out.old 0 (header format.number pilots) }
+pub fn put(format: AcmFormat, pilots: Pilots, out: &mut [u16])
+    requires { header_length ≤ length out.old }
+    ensures { out.new ≡ sets out.old 0 (header format.number (choice_number pilots)) }
 {
     put_words(&MARKER, out);
     put_word(descriptor_word(format, pilots), out, MARKER_LENGTH);
 }
 
 // The frame descriptor: the pilot choice is b6, behind the format's bits.
-fn descriptor_word(format: AcmFormat, pilots: u64) -> u64
-    requires { pilots ≤ pilots_on }
-    ensures { bits_of word_length result ≡ descriptor format.number pilots }
+fn descriptor_word(format: AcmFormat, pilots: Pilots) -> u64
+    ensures { bits_of word_length result ≡ descriptor format.number (choice_number pilots) }
 {
-    add_rows(2 * format.number + pilots, &ROWS) ^ SCRAMBLING
+    add_rows(2 * format.number + u64::from(pilots), &ROWS) ^ SCRAMBLING
 }
 
 // The sum of the rows whose bits are 1: there is a bit for each row, the first weighs most.
