@@ -86,8 +86,8 @@ fn put_frame(format: AcmFormat, pilots: Pilots, labels: &[u8], out: &mut [u16])
 {
     header::steps::put(format, pilots, out);
     match pilots {
-        Pilots::On => pilots::steps::put(labels, out, header::steps::LENGTH),
-        Pilots::Off => pilots::steps::put_labels(labels, out, header::steps::LENGTH),
+        Pilots::On => pilots::steps::put(labels, &mut out[header::steps::LENGTH..]),
+        Pilots::Off => pilots::steps::put_labels(labels, &mut out[header::steps::LENGTH..]),
     }
 }
 

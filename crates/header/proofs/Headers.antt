@@ -1,17 +1,17 @@
 -- How the stores of marker and descriptor make the header, and what its slots are.
-use mathlib.Core.Path.{◌≡◌, refl, ◌∙◌}
+use mathlib.Core.Path.{◌≡◌, refl, sym, ◌∙◌}
 use mathlib.Core.Bool.{true}
-use mathlib.Core.List.{List, [], ◌∷◌, ◌++◌, map-append}
+use mathlib.Core.List.{List, [], ◌∷◌, ◌++◌, append_assoc, map-append}
 use Prim.Native.Nat.{ℕ, zero, suc, ◌+◌, ◌<◌}
 use native.Mathlib.Omega.{arith}
 use borrow.Author.Tests.{eqb-true, eqb-false}
 use lib.Dec.{eqb}
-use lib.ListN.{length, get_or, replicate, length-append, length-map}
-use lib.Seq.{sets}
+use lib.ListN.{length, get_or, drop, replicate, length-append, length-map}
+use lib.Seq.{take_at, drop_at, drop-drop}
+use borrow.Rule.Slice.PartMut.{put_mid}
 use Rattle.bits.specs.Legal.{all_at_most, all_bits}
 use Rattle.bits.specs.Sum.{◌⊕*◌}
 use Rattle.bits.proofs.Cases.{by_cases}
-use Rattle.bits.proofs.Fill.{sets-append}
 use Rattle.bits.proofs.Legal.{legal_head, legal-tail}
 use Rattle.header.specs.Marker.{marker, marker_length}
 use Rattle.header.specs.Descriptor.{descriptor, descriptor_length, pilots_off, pilots_on}
@@ -19,12 +19,16 @@ use Rattle.header.specs.Header.{header, header_code, header_length, header_one, 
 use Rattle.header.proofs.Marker.{marker_length_lem}
 use Rattle.header.proofs.Descriptor.{descriptor-legal, descriptor_length_lem, pilots-turn}
 
-pub header-stored : (f pilots : ℕ) (out first both bits : List ℕ) → first ≡ sets out 0 (header_slots marker)
-    → both ≡ sets first marker_length (header_slots bits) → bits ≡ descriptor f pilots → both ≡ sets out 0 (header f pilots)
+-- the descriptor's slots are stored behind the marker's
+pub header-stored : (f pilots : ℕ) (out first bits : List ℕ) {slots : List ℕ} → first ≡ header_slots marker ++ drop marker_length out
+    → slots ≡ header_slots bits → bits ≡ descriptor f pilots → put_mid marker_length descriptor_length first slots ≡ header f pilots ++ drop header_length out
 unfolding header
-header-stored f pilots out first both bits a b d =
-    let many : 0 + length (header_slots marker) ≡ marker_length = omega (arith, length-map marker header_code, marker_length_lem) in
-    b ∙ rw (a, d, map-append header_code marker (descriptor f pilots), sets-append out 0 (header_slots marker) (header_slots (descriptor f pilots)), many)
+header-stored f pilots out first bits a b d =
+    let m = header_slots marker in
+    let rest = drop marker_length out in
+    let long : length m ≡ marker_length = length-map marker header_code ∙ marker_length_lem in
+    rw (a, b, d, take_at m rest marker_length long, drop_at m rest marker_length long, drop-drop descriptor_length marker_length out, map-append header_code marker (descriptor f pilots))
+    (sym (append_assoc m (header_slots (descriptor f pilots)) (drop header_length out)))
 
 pub header_length_lem : (f pilots : ℕ) → length (header f pilots) ≡ header_length
 unfolding header

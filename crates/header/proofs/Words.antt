@@ -5,9 +5,11 @@ use Prim.Native.Nat.{ℕ, ◌+◌, ◌-◌, ◌*◌, ◌/◌, ◌%◌, ◌^◌, 
 use native.Mathlib.Omega.{arith}
 use lib.ListN.{length, get_or, drop, length-map}
 use lib.Seq.{sets}
+use borrow.Rule.Slice.PartMut.{put_mid}
 use Rattle.bits.specs.Words.{bits_of, unpacked}
-use Rattle.bits.proofs.Fill.{Left, left-stretch}
-use Rattle.bits.proofs.Words.{bits-next, bits_none, length-bits, unpacked-next, unpacked-none}
+use Rattle.bits.proofs.Fill.{Left, left_as, left_end, left-stretch}
+use Rattle.bits.proofs.Parts.{sets_of_part}
+use Rattle.bits.proofs.Words.{bits-next, bits_none, length-bits, length-unpacked, unpacked-next, unpacked-none}
 use Rattle.header.specs.Header.{header_code, header_slots}
 use Rattle.header.specs.Words.{word_length}
 
@@ -25,13 +27,25 @@ module _ (words : List ℕ) (i : ℕ) where
       → header_slots (unpacked word_length (drop i words)) ≡ header_slots (bits_of word_length (get_or words i 0)) ++ header_slots (unpacked word_length (drop (i + 1) words))
   slots-split h = rw (unpacked-next word_length words i h, map-append header_code)
 
-  pub words_next : {out₀ ws out : List ℕ} (new : List ℕ) → i < length words → new ≡ sets out (word_length * i) (header_slots (bits_of word_length (get_or words i 0)))
-      → Left out₀ 0 ws out (word_length * i) (header_slots (unpacked word_length (drop i words)))
-      → Left out₀ 0 ws new (word_length * (i + 1)) (header_slots (unpacked word_length (drop (i + 1) words)))
-  words_next new h e l =
-      let slots = header_slots (bits_of word_length (get_or words i 0)) in
-      let many : length slots ≡ word_length = length-map (bits_of word_length (get_or words i 0)) header_code ∙ length-bits word_length (get_or words i 0) in
-      left-stretch new slots (header_slots (unpacked word_length (drop (i + 1) words))) (word_length * (i + 1)) (slots-split h) e (omega (arith, many)) l
+  slots-long : (word : ℕ) → length (header_slots (bits_of word_length word)) ≡ word_length
+  slots-long word = length-map (bits_of word_length word) header_code ∙ length-bits word_length word
 
-  pub words_none : length words ≤ i → header_slots (unpacked word_length (drop i words)) ≡ []
-  words_none h = ap header_slots (unpacked-none word_length words i h)
+  -- a word more is stored as a part of the buffer
+  pub words_next : {out₀ out : List ℕ} (new : List ℕ) → i < length words → word_length * length words ≤ length out₀
+      → new ≡ header_slots (bits_of word_length (get_or words i 0))
+      → Left out₀ 0 (header_slots (unpacked word_length words)) out (word_length * i) (header_slots (unpacked word_length (drop i words)))
+      → Left out₀ 0 (header_slots (unpacked word_length words)) (put_mid (word_length * i) (word_length * (i + 1) - word_length * i) out new) (word_length * (i + 1))
+      (header_slots (unpacked word_length (drop (i + 1) words)))
+  words_next {out₀} {out} new h room e l =
+      let slots = header_slots (bits_of word_length (get_or words i 0)) in
+      let many = slots-long (get_or words i 0) in
+      let stored = sets_of_part (word_length * i) (word_length * (i + 1) - word_length * i) out new (ap length e ∙ omega (arith, many)) (omega (arith, h, room, l.same)) in
+      left-stretch _ slots (header_slots (unpacked word_length (drop (i + 1) words))) (word_length * (i + 1)) (slots-split h) (stored ∙ ap (sets out (word_length * i)) e) (omega (arith, many)) l
+
+  pub words_end : {out₀ out : List ℕ} → length words ≤ i → word_length * length words ≤ length out₀
+      → Left out₀ 0 (header_slots (unpacked word_length words)) out (word_length * i) (header_slots (unpacked word_length (drop i words)))
+      → out ≡ header_slots (unpacked word_length words) ++ drop (word_length * length words) out₀
+  words_end {out₀} h room l =
+      let many : length (header_slots (unpacked word_length words)) ≡ word_length * length words = length-map (unpacked word_length words) header_code ∙ length-unpacked word_length words in
+      let none : header_slots (unpacked word_length (drop i words)) ≡ [] = ap header_slots (unpacked-none word_length words i h) in
+      left_end (omega (arith, many, room)) (left_as none l) ∙ ap (λ (k : ℕ). header_slots (unpacked word_length words) ++ drop k out₀) many

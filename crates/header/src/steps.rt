@@ -1,6 +1,5 @@
 // Opened to the frame alone: the header's slots. Marker and descriptor are held as words of 64 bits, of which the first weighs most.
-ghost use Rattle.std.specs.Prelude.{◌≡◌, map, ◌+◌, ◌*◌, ◌/◌, ◌%◌, ◌^◌, ◌≤◌, ◌<◌, length};
-ghost use Rattle.std.proofs.lemmas.List.Edits.{sets};
+ghost use Rattle.std.specs.Prelude.{◌≡◌, ◌++◌, map, ◌*◌, ◌/◌, ◌%◌, ◌^◌, ◌≤◌, ◌<◌, length, drop};
 ghost use Rattle.bits.specs.Words.{bits_of, unpacked};
 ghost use Rattle.header.specs.Descriptor.{add_rows, choice_number, descriptor};
 ghost use Rattle.header.specs.Header.{header, header_code, header_length, header_slots};
@@ -48,10 +47,11 @@ const SCRAMBLING: u64 = 0x719D83C953422DFA;
 // The header of a format and a pilot choice, to the front of out.
 pub fn put(format: AcmFormat, pilots: Pilots, out: &mut [u16])
     requires { header_length ≤ length out.old }
-    ensures { out.new ≡ sets out.old 0 (header format.number (choice_number pilots)) }
+    ensures { out.new ≡ header format.number (choice_number pilots) ++ drop header_length out.old }
 {
     put_words(&MARKER, out);
-    put_word(descriptor_word(format, pilots), out, MARKER_LENGTH);
+    let descriptor = descriptor_word(format, pilots);
+    put_word(descriptor, &mut out[MARKER_LENGTH..LENGTH]);
 }
 
 // The frame descriptor: the pilot choice is b6, behind the format's bits.
@@ -79,20 +79,20 @@ fn add_rows(bits: u64, rows: &[u64]) -> u64
 // The bits of several words as slots, to the front of out.
 fn put_words(words: &[u64], out: &mut [u16])
     requires { word_length * length words.now ≤ length out.old }
-    ensures { out.new ≡ sets out.old 0 (header_slots (unpacked word_length words.now)) }
+    ensures { out.new ≡ header_slots (unpacked word_length words.now) ++ drop (word_length * length words.now) out.old }
 {
     // By index: of what is written through chunks of out the proof knows the length alone.
     for (i, &word) in words.iter().enumerate() {
-        put_word(word, out, WORD_LENGTH * i);
+        put_word(word, &mut out[WORD_LENGTH * i..WORD_LENGTH * (i + 1)]);
     }
 }
 
-// The bits of a word as slots, from the slot at on.
-fn put_word(word: u64, out: &mut [u16], at: usize)
-    requires { at + word_length ≤ length out.old }
-    ensures { out.new ≡ sets out.old at (header_slots (bits_of word_length word)) }
+// The bits of a word as slots, to out.
+fn put_word(word: u64, out: &mut [u16])
+    requires { length out.old ≡ word_length }
+    ensures { out.new ≡ header_slots (bits_of word_length word) }
 {
-    for (k, slot) in out[at..at + WORD_LENGTH].iter_mut().enumerate() {
+    for (k, slot) in out.iter_mut().enumerate() {
         *slot = header_code(bit(word, WORD_LENGTH - 1 - k));
     }
 }

@@ -1,3 +1,4 @@
+pub mod Behind
 pub mod Inserted
 pub mod Places
 pub mod Turns

@@ -6,5 +6,4 @@ use Rattle.header.proofs.steps.put.Goals as goal
 
 pub returns : goal.returns
 unfolding marker unpacked bits_of
-returns c =
-    header-stored _ _ _ _ _ _ c.put_words.ensures c.put_word.ensures c.descriptor_word.ensures
+returns c = header-stored _ _ c.args.out.now _ _ c.put_words.ensures c.put_word.ensures c.descriptor_word-descriptor.ensures

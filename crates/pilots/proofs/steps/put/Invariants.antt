@@ -3,4 +3,4 @@ use Rattle.pilots.proofs.Turns.{Chunked}
 use Rattle.pilots.proofs.steps.put.Given as goal
 
 abbrev pub invariant-loop-i : goal.invariant-loop-i
-invariant-loop-i l = Chunked l.initial.out l.at l.labels l.out l.i-iterator.count l.i-iterator.iter.size l.i-iterator.iter.rest.now
+invariant-loop-i l = Chunked l.initial.out l.labels l.out l.i-iterator.count l.i-iterator.iter.size l.i-iterator.iter.rest.now

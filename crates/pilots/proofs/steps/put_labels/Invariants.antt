@@ -1,8 +1,6 @@
--- What is left to store after i labels are the labels from i on.
-use Prim.Native.Nat.{◌+◌}
-use lib.ListN.{drop}
-use Rattle.bits.proofs.Fill.{Left}
+-- After i labels, they are the first i slots, and those behind them are as they were.
+use Rattle.std.proofs.Common.{◌≡◌, ◌++◌, take, drop}
 use Rattle.pilots.proofs.steps.put_labels.Given as goal
 
 abbrev pub invariant-loop-i : goal.invariant-loop-i
-invariant-loop-i l = Left l.initial.out l.at l.labels l.out (l.at + l.i) (drop l.i l.labels)
+invariant-loop-i l = l.out ≡ take l.i l.labels ++ drop l.i l.initial.out
