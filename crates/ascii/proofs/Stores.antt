@@ -1,18 +1,14 @@
 -- How text goes into a buffer: a number's digits, of which the last is stored first, a line of numbers, and two texts at the front.
-use mathlib.Core.Path.{◌≡◌, ap, ◌∙◌}
-use mathlib.Core.List.{List, [], ◌∷◌, ◌++◌}
+use mathlib.Core.Path.{◌≡◌, refl, ap, ◌∙◌}
+use mathlib.Core.List.{List, [], ◌∷◌, ◌++◌, append_assoc}
 use Prim.Native.Nat.{ℕ, suc, ◌+◌, ◌/◌, ◌%◌, ◌≤◌, ◌<◌}
 use native.Mathlib.Nat.{add-zero}
 use native.Mathlib.Omega.{arith}
-use borrow.Author.Tests.{ltb-true, ltb-false}
-use lib.Dec.{ltb}
-use lib.ListN.{length, get_or, drop, set, length-append, drop_of_length-le}
+use lib.ListN.{length, get_or, drop, set, length-append}
 use lib.Seq.{sets, length-sets, set_comm}
-use Rattle.std.specs.Prelude.{if◌then◌else◌}
-use Rattle.bits.proofs.Cases.{by_cases}
-use Rattle.bits.proofs.Fill.{Left, left_as, left_store, left_stores, sets-append, sets-front}
+use Rattle.bits.proofs.Fill.{Left, left-stretch, sets-append, sets-front}
 use Rattle.bits.proofs.Lists.{drop-next}
-use Rattle.ascii.specs.Text.{comma, line_feed, digit, decimal, separator, line, at_front}
+use Rattle.ascii.specs.Text.{comma, digit, decimal, separator, line, at_front}
 use Rattle.ascii.proofs.Decimal.{last_digits, last_digits-length}
 
 -- the last may be stored first
@@ -28,23 +24,21 @@ decimal-turn out at i n k k' here e =
     let place : i ≡ at + length (last_digits k (n / 10)) = omega (arith, last_digits-length k (n / 10)) in
     rw (place, e) (sets_last out at (last_digits k (n / 10)) (digit (n % 10)))
 
--- a line of numbers, of which those from i on are left to put
-line-next : (ns : List ℕ) (i : ℕ) → i < length ns → line (drop i ns) ≡ decimal (get_or ns i 0) ++ separator (drop (i + 1) ns) ∷ line (drop (i + 1) ns)
-line-next ns i h = ap line (drop-next ns i h)
+-- a line of numbers, of which those from i on are left to put, and the last
+separator-more : (ns : List ℕ) (last : ℕ) → separator (ns ++ (last ∷ [])) ≡ comma
+separator-more [] last = refl
+separator-more (n ∷ ns) last = refl
 
-separator-is : (ns : List ℕ) (i : ℕ) → separator (drop i ns) ≡ (if ltb i (length ns) then comma else line_feed)
-separator-is ns i =
-    by_cases (ltb i (length ns))
-    (λ t. rw (t, drop-next ns i (ltb-true i (length ns) t)))
-    (λ f. rw (f, drop_of_length-le ns {i = i} (ltb-false i (length ns) f)))
+line-next : (ns : List ℕ) (last i : ℕ) → i < length ns
+    → line (drop i ns ++ (last ∷ [])) ≡ (decimal (get_or ns i 0) ++ (comma ∷ [])) ++ line (drop (i + 1) ns ++ (last ∷ []))
+line-next ns last i h = rw (drop-next ns i h, separator-more (drop (i + 1) ns) last, append_assoc)
 
-module _ (ns : List ℕ) (i : ℕ) (h : i < length ns) {out₀ ws out : List ℕ} {at end : ℕ} (l : Left out₀ at ws out end (line (drop i ns))) where
-  number-left : Left out₀ at ws (sets out end (decimal (get_or ns i 0))) (end + length (decimal (get_or ns i 0))) (separator (drop (i + 1) ns) ∷ line (drop (i + 1) ns))
-  number-left = left_stores (decimal (get_or ns i 0)) _ (left_as (line-next ns i h) l)
-
-  pub line-turn : {out' : List ℕ} {end' b : ℕ} → out' ≡ sets out end (decimal (get_or ns i 0)) → end' ≡ end + length (decimal (get_or ns i 0)) → b ≡ (if ltb (i + 1) (length ns) then comma else line_feed)
-      → Left out₀ at ws (set out' end' b) (end' + 1) (line (drop (i + 1) ns))
-  line-turn o e b = rw (o, e, b, ← separator-is ns (i + 1)) (left_store number-left)
+module _ (ns : List ℕ) (last i : ℕ) {out₀ ws out : List ℕ} {at end : ℕ} (l : Left out₀ at ws out end (line (drop i ns ++ (last ∷ [])))) where
+  pub line-turn : {new : List ℕ} {next : ℕ} → i < length ns → new ≡ sets out end (decimal (get_or ns i 0) ++ (comma ∷ [])) → next ≡ end + length (decimal (get_or ns i 0)) + 1
+      → Left out₀ at ws new next (line (drop (i + 1) ns ++ (last ∷ [])))
+  line-turn {new} {next} h stored past =
+      left-stretch new (decimal (get_or ns i 0) ++ (comma ∷ [])) _ next (line-next ns last i h) stored
+      (omega (arith, past, length-append (decimal (get_or ns i 0)) (comma ∷ []))) l
 
 -- two texts to the front of a buffer, one behind the other
 module _ (out₀ xs ys : List ℕ) {out₁ : List ℕ} {at : ℕ} (first : out₁ ≡ sets out₀ 0 xs) (e : at ≡ 0 + length xs) where

@@ -1,5 +1,5 @@
 // Text in ASCII, put into a buffer. Opened to the layers above alone.
-ghost use Rattle.std.specs.Prelude.{◌≡◌, ◌+◌, ◌≤◌, length};
+ghost use Rattle.std.specs.Prelude.{◌≡◌, [], ◌∷◌, ◌++◌, ◌+◌, ◌≤◌, ◌<◌, length};
 ghost use Rattle.std.proofs.lemmas.List.Edits.{sets};
 ghost use Rattle.ascii.specs.Text.{decimal, line};
 
@@ -30,17 +30,25 @@ pub fn put_line(numbers: &[u64], out: &mut [u8], at: usize) -> usize
     ensures value { result ≡ at + length (line numbers.now) }
     ensures out_after { out.new ≡ sets out.old at (line numbers.now) }
 {
+    let Some((&last, others)) = numbers.split_last() else {
+        return at;
+    };
     let mut end = at;
-    for (i, &n) in numbers.iter().enumerate() {
-        end = put_decimal(n, out, end);
-        out[end] = if i + 1 < numbers.len() {
-            COMMA
-        } else {
-            LINE_FEED
-        };
-        end += 1;
+    for &n in others {
+        end = put_number(n, COMMA, out, end);
     }
-    end
+    put_number(last, LINE_FEED, out, end)
+}
+
+// A number and the byte that follows it, from the place at on; answers the place behind them.
+fn put_number(n: u64, follows: u8, out: &mut [u8], at: usize) -> usize
+    requires { at + length (decimal n) < length out.old }
+    ensures value { result ≡ at + length (decimal n) + 1 }
+    ensures out_after { out.new ≡ sets out.old at (decimal n ++ follows ∷ []) }
+{
+    let end = put_decimal(n, out, at);
+    out[end] = follows;
+    end + 1
 }
 
 // A number in decimal, from the place at on; answers the place behind it.
