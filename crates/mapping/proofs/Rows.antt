@@ -173,9 +173,3 @@ module _ {codeword behind out rest : List ℕ} {size : ℕ} (p : ColumnsLeft cod
           inside = omega (arith, column_inside);
           labelled = is ∙ ap₂ appended (sym column_is) p.labelled ∙ labels-turn p.done codeword behind column_inside;
         }
-
-  -- no column is left
-  pub columns_end : length rest < size → out ≡ labels (columns codeword) codeword ++ behind
-  columns_end few =
-      let all : p.done ≡ columns codeword = omega (arith, rest_long, p.size_is) in
-      p.labelled ∙ ap (λ (n : ℕ). labels n codeword ++ behind) all

@@ -1,5 +1,5 @@
 use Rattle.std.proofs.Common.{refl, arith}
-use Rattle.mapping.proofs.Rows.{labels_start, bit_fits, column_turn, columns_end}
+use Rattle.mapping.proofs.Rows.{labels_start, bit_fits, column_turn}
 use Rattle.mapping.proofs.steps.write.Goals as goal
 
 pub loop-column-init : goal.loop-column-init
@@ -22,6 +22,3 @@ pub loop-column-preserved : goal.loop-column-preserved
 loop-column-preserved c =
     let s = c.in-Some.ensures.steps in
     column_turn c.loop-column.invariant _ _ s.1.0 s.1.1 _ _ c.append.ensures s.0
-
-pub returns : goal.returns
-returns c = columns_end c.loop-column.invariant c.in-None.ensures.steps.1.0
