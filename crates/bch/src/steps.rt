@@ -15,8 +15,8 @@ pub const CHECK_LENGTH: usize = 52;
 const BYTE_LENGTH: usize = 8;
 
 // The codeword of a list of bits, to the front of out: the bits, and behind them their check bits.
-// That they are bits is a clause, here and below: a type for it is no plainer, since what is encoded are pieces of a list and the bytes of a piece, each of which
-// would have to be shown to be bits as now.
+// That they are bits is a clause, here and below: a type for it is no plainer, since what is encoded are pieces of a list and the bytes of a piece,
+// each of which would have to be shown to be bits as now.
 pub fn encode(list: &[u8], out: &mut [u8])
     requires { (all_bits list.now ≡ true) × (length list.now % byte_length ≡ 0) × (length list.now + check_length ≤ length out.old) }
     ensures { out.new ≡ coded list.now ++ drop (length list.now + check_length) out.old }
@@ -69,7 +69,7 @@ fn pack(bits: &[u8]) -> u64
     byte
 }
 
-// The check bits that a word holds, to out.
+// The check bits that a word holds, to out. `put_word` of header does so with slots: one function of both would take what a bit is written as.
 fn put_bits(word: u64, out: &mut [u8])
     requires { length out.old ≡ check_length }
     ensures { out.new ≡ bits_of check_length word }

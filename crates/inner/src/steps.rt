@@ -15,7 +15,8 @@ use coder::steps::Coder;
 use interleaver::steps::Walk;
 use trellis::State;
 
-// The codeword's trellis part, of the outer kept bits at the front of work, to the front of out.
+// The codeword's trellis part, of the outer kept bits at the front of work, to the front of out. The room of work and out is a clause, here and
+// below (`Lent`): they are lent side by side, one to be written, and a type of both would be made and taken apart at each call.
 pub fn encode(format: AcmFormat, work: &[u8], out: &mut [u8])
     requires { ((format_of format.number).i ≤ length work.now) × (N1 (format_of format.number) ≤ length out.old) }
     ensures { out.new ≡ from_outer format.number work.now ++ drop (N1 (format_of format.number)) out.old }

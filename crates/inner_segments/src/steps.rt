@@ -24,7 +24,8 @@ use trellis::State;
 // The codeword's trellis part, of the outer kept bits at the front of work, to the front of out, by the segments between cuts of the interleaved
 // bits. Between the two passes the starting states are worked out.
 // Answers the states of the segments.
-// That the interleaved bits are bits is a clause: they lie in work at the interleaver's places, and no list that a type could be of has them.
+// The room of work and out is a clause, as in inner, and that the interleaved bits are bits is one: they lie in work at the interleaver's places,
+// and no list that a type could be of has them.
 pub fn encode(format: AcmFormat, cuts: &[u16], work: &[u8], out: &mut [u8]) -> States
     requires lent { ((format_of format.number).i ≤ length work.now) × (N1 (format_of format.number) ≤ length out.old) }
     requires cuts { Cuts (format_of format.number).i cuts.now × (all_bits (interleaved (format_of format.number) (π format.number) work.now) ≡ true) }
