@@ -1,8 +1,8 @@
 -- How the stores of marker and descriptor make the header, and what its slots are.
-use mathlib.Core.Path.{◌≡◌, refl, sym, ◌∙◌}
+use mathlib.Core.Path.{◌≡◌, refl, sym, ap, ◌∙◌}
 use mathlib.Core.Bool.{true}
 use mathlib.Core.List.{List, [], ◌∷◌, ◌++◌, append_assoc, map-append}
-use Prim.Native.Nat.{ℕ, zero, suc, ◌+◌, ◌<◌}
+use Prim.Native.Nat.{ℕ, zero, suc, ◌+◌, ◌*◌, ◌<◌}
 use native.Mathlib.Omega.{arith}
 use borrow.Author.Tests.{eqb-true, eqb-false}
 use lib.Dec.{eqb}
@@ -10,24 +10,29 @@ use lib.ListN.{length, get_or, drop, replicate, length-append, length-map}
 use lib.Seq.{take_at, drop_at, drop-drop}
 use borrow.Rule.Slice.PartMut.{put_mid}
 use Rattle.bits.specs.Legal.{all_at_most, all_bits}
+use Rattle.bits.specs.Words.{unpacked}
 use Rattle.bits.specs.Sum.{◌⊕*◌}
 use Rattle.bits.proofs.Cases.{by_cases}
 use Rattle.bits.proofs.Legal.{legal_head, legal-tail}
+use Rattle.bits.proofs.Words.{length-unpacked}
 use Rattle.header.specs.Marker.{marker, marker_length}
 use Rattle.header.specs.Descriptor.{descriptor, descriptor_length, pilots_off, pilots_on}
 use Rattle.header.specs.Header.{header, header_code, header_length, header_one, header_slots, header_zero}
+use Rattle.header.specs.Words.{word_length}
 use Rattle.header.proofs.Marker.{marker_length_lem}
 use Rattle.header.proofs.Descriptor.{descriptor-legal, descriptor_length_lem, pilots-turn}
 
 -- the descriptor's slots are stored behind the marker's
-pub header-stored : (f pilots : ℕ) (out first bits : List ℕ) {slots : List ℕ} → first ≡ header_slots marker ++ drop marker_length out
+pub header-stored : (f pilots : ℕ) (words out first bits : List ℕ) {slots : List ℕ} → unpacked word_length words ≡ marker
+    → first ≡ header_slots (unpacked word_length words) ++ drop (word_length * length words) out
     → slots ≡ header_slots bits → bits ≡ descriptor f pilots → put_mid marker_length descriptor_length first slots ≡ header f pilots ++ drop header_length out
 unfolding header
-header-stored f pilots out first bits a b d =
+header-stored f pilots words out first bits is a b d =
     let m = header_slots marker in
     let rest = drop marker_length out in
     let long : length m ≡ marker_length = length-map marker header_code ∙ marker_length_lem in
-    rw (a, b, d, take_at m rest marker_length long, drop_at m rest marker_length long, drop-drop descriptor_length marker_length out, map-append header_code marker (descriptor f pilots))
+    let many : word_length * length words ≡ marker_length = sym (length-unpacked word_length words) ∙ ap length is ∙ marker_length_lem in
+    rw (a, is, many, b, d, take_at m rest marker_length long, drop_at m rest marker_length long, drop-drop descriptor_length marker_length out, map-append header_code marker (descriptor f pilots))
     (sym (append_assoc m (header_slots (descriptor f pilots)) (drop header_length out)))
 
 pub header_length_lem : (f pilots : ℕ) → length (header f pilots) ≡ header_length
