@@ -4,4 +4,5 @@ pub mod Laid
 pub mod Matched
 pub mod Places
 pub mod Positions
+pub mod Slots
 pub mod Zeroed

@@ -1,2 +1,3 @@
 pub mod Puncture
+pub mod Slots
 pub mod Table42

@@ -4,8 +4,11 @@
 ghost use Rattle.std.specs.Prelude.{◌≡◌, ℕ, ◌-◌, ◌<◌, min, length, get_or};
 ghost use Rattle.puncture.specs.Puncture.{period, most_punctured, pattern as pattern_of, LaidOut, zeroed};
 
+mod marks;
 pub mod steps;
 mod table;
+
+pub use marks::Marks;
 
 // The length of the puncturing pattern.
 pub const PERIOD: usize = 300;
