@@ -37,7 +37,7 @@ filled-on S slots n low f = record {
   mark = λ p h. by_cases (eqb p n)
       (λ t. let e : p ≡ n = eqb-true p n t in rw e (get_or-set_same slots (slot n) (get_or (pattern S) n 0) 0 (omega (arith, f.long))))
       (λ a. let away = eqb-false p n a in
-      get_or-set_other slots (slot n) (slot p) (get_or (pattern S) n 0) 0 (λ e. omega (arith, e, away, h, low)) ∙ f.mark p (omega (arith, away, h)));
+      get_or-set_other slots (slot n) (slot p) (get_or (pattern S) n 0) 0 (λ e. omega (arith, slot-rest p (omega (arith, h, low)), slot-rest n (omega (arith, low)), e, away, h, low)) ∙ f.mark p (omega (arith, away, h)));
 }
 
 pub filled-spread : (S : ℕ) (slots : List ℕ) (n : ℕ) → period ≤ n → Filled S slots n → Spread S slots
