@@ -1,10 +1,10 @@
 -- Where the code finds the mark of a position: in one of 512 slots, so that it need not divide by 300.
-use Rattle.std.specs.Prelude.{◌≡◌, List, ℕ, ◌*◌, ◌/◌, ◌%◌, ◌^◌, ◌<◌, length, get_or}
+use Rattle.std.specs.Prelude.{◌≡◌, List, ℕ, ◌+◌, ◌*◌, ◌/◌, ◌%◌, ◌^◌, ◌<◌, length, get_or}
 use Rattle.puncture.specs.Puncture.{period, pattern}
 
--- the nine heaviest bits of 32 of p × 2^32 / 300, with the quotient rounded up: the fraction of p / 300 in 512ths
+-- what p leaves, in 512ths of 300: the nine heaviest of 32 bits of p times 2^32 / 300, rounded up
 abbrev pub slot : ℕ → ℕ
-slot p = p * 14316558 % 2 ^ 32 / 2 ^ 23
+slot p = p * (2 ^ 32 / period + 1) % 2 ^ 32 / 2 ^ 23
 
 -- a pattern whose marks stand in their positions' slots
 pub record Spread (Ssur : ℕ) (slots : List ℕ) : Type 0 where

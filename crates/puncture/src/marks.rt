@@ -3,11 +3,13 @@ ghost use Rattle.std.specs.Prelude.{◌≡◌, ◌^◌, ◌≤◌, ◌<◌, eqb}
 ghost use Rattle.puncture.specs.Puncture.{survives};
 ghost use Rattle.puncture.specs.Slots.{slot as slot_of, Spread};
 
+use crate::PERIOD;
+
 // Slots of the positions' marks.
 const SLOTS: usize = 512;
 
-// 2^32 / 300, rounded up.
-const STEP: u32 = 14_316_558;
+// 2^32 / 300, rounded up: 300 does not divide it.
+const STEP: u32 = u32::MAX / PERIOD as u32 + 1;
 
 // The marks of a pattern, each in the slot of the positions that have it.
 #[derive(Clone, Copy)]
