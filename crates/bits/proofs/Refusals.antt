@@ -23,6 +23,8 @@ above_passed refusal.CutCount = omega arith
 above_passed refusal.CutPlace = omega arith
 above_passed refusal.Pilots = omega arith
 above_passed refusal.Memory = omega arith
+above_passed refusal.Code = omega arith
+above_passed refusal.WayBack = omega arith
 
 pub not_passed : (r : Refusal) → check_number r ≡ passed → ⊥
 not_passed r e = omega (arith, above_passed r)

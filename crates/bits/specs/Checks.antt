@@ -51,6 +51,12 @@ bad_pilots = 14
 abbrev pub short_memory : ℕ
 short_memory = 15
 
+abbrev pub bad_code : ℕ
+bad_code = 16
+
+abbrev pub no_way_back : ℕ
+no_way_back = 17
+
 -- a check: whether it holds, and its number
 pub record Check : Type 0 where
   pub holds : Bool
@@ -82,6 +88,8 @@ check_number refusal.CutCount = many_cuts
 check_number refusal.CutPlace = bad_cut
 check_number refusal.Pilots = bad_pilots
 check_number refusal.Memory = short_memory
+check_number refusal.Code = bad_code
+check_number refusal.WayBack = no_way_back
 
 -- the number of an answer, whatever else it tells
 abbrev pub number_of : {A : Type 0} → Result A Refusal → ℕ

@@ -15,7 +15,7 @@ pub enum Refusal {
     Workspace = 4,
     // The output is long enough.
     Output = 5,
-    // The job line is well formed.
+    // The job line is well formed, and of the form that the call takes.
     Line = 6,
     // The job line's pattern is known.
     Pattern = 7,
@@ -35,6 +35,10 @@ pub enum Refusal {
     Pilots = 14,
     // The interleaver's memory is long enough.
     Memory = 15,
+    // The code number is at most 262,142.
+    Code = 16,
+    // The job line can go back to the old form: pilots are 0, and there is no code number.
+    WayBack = 17,
 }
 
 // The check's number: the enum's own, which `as` reads.
