@@ -1,9 +1,14 @@
 // Text in ASCII, put into a buffer. Opened to the layers above alone.
 ghost use Rattle.std.specs.Prelude.{◌≡◌, [], ◌∷◌, ◌++◌, ◌+◌, ◌≤◌, ◌<◌, length};
 ghost use Rattle.std.proofs.lemmas.List.Edits.{sets};
-ghost use Rattle.ascii.specs.Text.{decimal, line};
+ghost use Rattle.bits.specs.Checks.{check_number};
+ghost use Rattle.ascii.specs.Text.{at_front, decimal, line, longest_refusal, refusal_text};
+
+use bits::Refusal;
 
 pub const COMMA: u8 = b',';
+
+pub const DASH: u8 = b'-';
 
 pub const LINE_FEED: u8 = b'\n';
 
@@ -38,6 +43,17 @@ pub fn put_line(numbers: &[u64], out: &mut [u8], at: usize) -> usize
         end = put_number(n, COMMA, out, end);
     }
     put_number(last, LINE_FEED, out, end)
+}
+
+// The text of a refusal, to the front of out; answers how long it is.
+pub fn put_refusal(refusal: Refusal, out: &mut [u8]) -> usize
+    requires { longest_refusal ≤ length out.old }
+    ensures value { result ≡ length (refusal_text (check_number refusal)) }
+    ensures out_after { out.new ≡ at_front (refusal_text (check_number refusal)) out.old }
+{
+    let at = put(b"refused,", out, 0);
+    let number = u64::from(u8::from(refusal));
+    put_line(&[number], out, at)
 }
 
 // A number and the byte that follows it, from the place at on; answers the place behind them.

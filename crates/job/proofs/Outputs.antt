@@ -2,11 +2,11 @@
 use mathlib.Core.Path.{◌≡◌, sym, ap, ◌∙◌}
 use mathlib.Core.Bool.{true}
 use mathlib.Core.List.{List, [], ◌∷◌}
-use Prim.Native.Nat.{ℕ, ◌+◌, ◌≤◌, ◌<◌}
+use Prim.Native.Nat.{ℕ, ◌≤◌, ◌<◌}
 use native.Mathlib.Omega.{arith}
 use borrow.Author.Tests.{leb-true, leb-false, eq-eqb, ne_eqb}
 use lib.Dec.{leb}
-use lib.ListN.{length, take, length-append}
+use lib.ListN.{length, take}
 use lib.Seq.{take_all, length-take-le}
 use Rattle.bits.specs.Checks.{passed, bad_line}
 use Rattle.bits.proofs.Cases.{by_cases}
@@ -14,23 +14,17 @@ use Rattle.acm.specs.Formats.{is_format, format_of}
 use Rattle.acm.proofs.Laws.{format_high, within}
 use Rattle.encoder.specs.Codeword.{codeword}
 use Rattle.encoder.proofs.Codewords.{codeword-length}
-use Rattle.ascii.specs.Text.{separator, decimal, line}
-use Rattle.ascii.proofs.Decimal.{decimal-length}
+use Rattle.ascii.specs.Text.{refusal_text}
+use Rattle.ascii.proofs.Lengths.{number-length}
 use Rattle.row.specs.declared.steps.Row.{Row}
 use Rattle.row.specs.Row.{block, row_of}
 use Rattle.row.proofs.Rows.{block-length, ones-most}
 use Rattle.job_line.specs.Line.{longest_line, is_line, format_in, pattern_in}
 use Rattle.job_line.specs.Job.{job_number}
 use Rattle.job_line.proofs.Lines.{line-short}
-use Rattle.job.specs.Output.{longest_output, row_text, refusal_text, output}
-
-line-length : (n : ℕ) (ns : List ℕ) → length (line (n ∷ ns)) ≡ length (decimal n) + 1 + length (line ns)
-line-length n ns = length-append (decimal n) (separator ns ∷ line ns) ∙ omega arith
+use Rattle.job.specs.Output.{longest_output, row_text, output}
 
 -- the header has 18 bytes, a format at most 2 digits, and the other numbers at most 5
-number-length : (n : ℕ) (ns : List ℕ) → n < 100000 → length (line (n ∷ ns)) ≤ 6 + length (line ns)
-number-length n ns h = omega (arith, line-length n ns, decimal-length 4 n h)
-
 pub row-length : (f p : ℕ) → is_format f ≡ true → length (row_text (row_of f p)) ≤ longest_output
 unfolding row_text
 row-length f p h =
@@ -38,15 +32,11 @@ row-length f p h =
     let w = within f h in
     let most = ones-most (codeword f (block p (format_of f).k)) in
     let long = codeword-length f h (block p (format_of f).k) (block-length p (format_of f).k) in
-    let rest₁ = number-length r.k (r.i ∷ r.n ∷ r.ones ∷ []) (omega (arith, w.most_k_lem)) in
-    let rest₂ = number-length r.i (r.n ∷ r.ones ∷ []) (omega (arith, w.most_i_lem)) in
-    let rest₃ = number-length r.n (r.ones ∷ []) (omega (arith, w.most_n_lem)) in
-    let rest₄ = number-length r.ones [] (omega (arith, w.most_n_lem)) in
-    omega (arith, line-length f (r.k ∷ r.i ∷ r.n ∷ r.ones ∷ []), decimal-length 1 f (omega (arith, format_high f h)))
-
-pub refusal_length : (n : ℕ) → n < 256 → length (refusal_text n) ≤ longest_output
-unfolding refusal_text
-refusal_length n h = omega (arith, number-length n [] (omega arith))
+    let rest₁ = number-length 4 r.k (r.i ∷ r.n ∷ r.ones ∷ []) (omega (arith, w.most_k_lem)) in
+    let rest₂ = number-length 4 r.i (r.n ∷ r.ones ∷ []) (omega (arith, w.most_i_lem)) in
+    let rest₃ = number-length 4 r.n (r.ones ∷ []) (omega (arith, w.most_n_lem)) in
+    let rest₄ = number-length 4 r.ones [] (omega (arith, w.most_n_lem)) in
+    omega (arith, number-length 1 f (r.k ∷ r.i ∷ r.n ∷ r.ones ∷ []) (omega (arith, format_high f h)))
 
 -- the two outputs
 pub output_row : (text : List ℕ) {r : Row} → job_number text ≡ passed → r ≡ row_of (format_in text) (pattern_in text) → row_text r ≡ output text

@@ -1,10 +1,10 @@
 -- Job lines, read: which are refused, and with what.
 use mathlib.Core.Path.{◌≡◌, refl}
 use Rattle.bits.specs.Place.{place}
-use Rattle.ascii.specs.Text.{ascii, decimal, decimal_within}
+use Rattle.ascii.specs.Text.{ascii, decimal, decimal_within, refusal_text}
 use Rattle.job_line.specs.Line.{format_in, pattern_in, is_line}
 use Rattle.job_line.specs.Job.{job_number}
-use Rattle.job.specs.Output.{refusal_text, output}
+use Rattle.job.specs.Output.{output}
 
 leading_zero : output (ascii "07,0\n") ≡ ascii "refused,6\n"
 unfolding output refusal_text job_number is_line format_in pattern_in place decimal decimal_within

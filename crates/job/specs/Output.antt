@@ -1,7 +1,7 @@
 -- What the bench prints for a text on its standard input.
 use Rattle.std.specs.Prelude.{List, [], ◌∷◌, ◌++◌, ℕ, eqb, if◌then◌else◌}
 use Rattle.bits.specs.Checks.{passed}
-use Rattle.ascii.specs.Text.{ascii, line}
+use Rattle.ascii.specs.Text.{ascii, line, refusal_text}
 use Rattle.row.specs.declared.steps.Row.{Row}
 use Rattle.row.specs.Row.{row_of}
 use Rattle.job_line.specs.Line.{format_in, pattern_in}
@@ -19,9 +19,6 @@ numbers r = r.format ∷ r.k ∷ r.i ∷ r.n ∷ r.ones ∷ []
 
 unfoldable pub row_text : Row → List ℕ
 row_text r = header ++ line (numbers r)
-
-unfoldable pub refusal_text : ℕ → List ℕ
-refusal_text number = ascii "refused," ++ line (number ∷ [])
 
 unfoldable pub output : List ℕ → List ℕ
 output text =

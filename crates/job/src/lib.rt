@@ -2,11 +2,9 @@
 #![tactic(auto)]
 
 ghost use Rattle.std.specs.Prelude.{◌≡◌, ◌≤◌, length};
-ghost use Rattle.bits.specs.Checks.{check_number};
 ghost use Rattle.ascii.specs.Text.{at_front};
-ghost use Rattle.job.specs.Output.{longest_output, output as output_of, refusal_text, row_text};
+ghost use Rattle.job.specs.Output.{longest_output, output as output_of, row_text};
 
-use bits::Refusal;
 use row::steps::Row;
 
 // Bytes of the longest output.
@@ -22,7 +20,7 @@ pub fn output(text: &[u8], out: &mut [u8; LONGEST_OUTPUT]) -> usize
 {
     match job_line::parse(text) {
         Ok(job) => put_row(row::steps::make(job.format, job.pattern), out),
-        Err(refusal) => put_refusal(refusal, out),
+        Err(refusal) => ascii::steps::put_refusal(refusal, out),
     }
 }
 
@@ -42,15 +40,4 @@ fn put_row(row: Row, out: &mut [u8]) -> usize
         row.ones as u64,
     ];
     ascii::steps::put_line(&numbers, out, at)
-}
-
-// The number of a refusal, to the front of out; answers how long the text is.
-fn put_refusal(refusal: Refusal, out: &mut [u8]) -> usize
-    requires { longest_output ≤ length out.old }
-    ensures value { result ≡ length (refusal_text (check_number refusal)) }
-    ensures out_after { out.new ≡ at_front (refusal_text (check_number refusal)) out.old }
-{
-    let at = ascii::steps::put(b"refused,", out, 0);
-    let number = u64::from(u8::from(refusal));
-    ascii::steps::put_line(&[number], out, at)
 }

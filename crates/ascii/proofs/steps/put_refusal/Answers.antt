@@ -5,12 +5,11 @@ use Prim.Native.Nat.{ℕ, ◌≤◌}
 use native.Mathlib.Omega.{arith}
 use lib.ListN.{length}
 use Rattle.bits.specs.Checks.{check_number}
-use Rattle.ascii.specs.Text.{ascii, line, at_front}
+use Rattle.ascii.specs.Text.{ascii, line, at_front, refusal_text}
+use Rattle.ascii.proofs.Lengths.{refusal_length}
 use Rattle.ascii.proofs.Stores.{front-room, front_put}
-use Rattle.job.specs.Output.{refusal_text}
-use Rattle.job.proofs.Outputs.{refusal_length}
-use Rattle.job.proofs.put_refusal.Goals.{After-from-number}
-use Rattle.job.proofs.put_refusal.Goals as goal
+use Rattle.ascii.proofs.steps.put_refusal.Goals.{After-from-number}
+use Rattle.ascii.proofs.steps.put_refusal.Goals as goal
 
 fits : (c : After-from-number) → length (refusal_text c.from-number.result) ≤ length c.args.out.now
 fits c =
