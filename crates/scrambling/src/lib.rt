@@ -1,0 +1,32 @@
+// The code numbers of the physical-layer randomizer (000, annex E).
+#![tactic(auto)]
+
+ghost use Rattle.std.specs.Prelude.{◌≡◌, true, false, MatchResult};
+ghost use Rattle.bits.specs.declared.checks.Refusal.TheVariants as refusal;
+ghost use Rattle.scrambling.specs.Code.{is_code};
+
+use bits::Refusal;
+
+// The last code number, 2^18 - 2.
+pub const LAST: u64 = 262142;
+
+// A code number that there is: whoever holds one need not ask again whether there is such a sequence.
+#[derive(Clone, Copy, Debug, PartialEq, Eq)]
+pub struct CodeNumber {
+    pub number: u64,
+    ghost is: { is_code number ≡ true },
+}
+
+// Checks: 16.
+impl TryFrom<u64> for CodeNumber {
+    type Error = Refusal;
+
+    ghost try_from_gives = { λ number result. MatchResult result (λ code. (is_code number ≡ true) × (code.number ≡ number)) (λ e. (is_code number ≡ false) × (e ≡ refusal.Code)) };
+
+    fn try_from(number: u64) -> Result<CodeNumber, Refusal> {
+        if LAST < number {
+            return Err(Refusal::Code);
+        }
+        Ok(CodeNumber { number })
+    }
+}
