@@ -3,9 +3,6 @@
 // behind it.
 #![tactic(auto)]
 
-ghost use Rattle.std.specs.Prelude.{◌≤◌, length};
-
-use std::io::Read;
 use std::{io, str};
 
 mod answer;
@@ -22,25 +19,8 @@ const ROOM: usize = 4096;
 
 fn main(rt: HostRuntime) -> io::Result<()> {
     let mut buffer = [0; ROOM];
-    run(&rt, read_full(&rt, &mut buffer))?;
+    run(&rt, input::read_full(&rt, &mut buffer))?;
     lines::run(&rt)
-}
-
-// Reads until the buffer is full, the input ends or a read fails, and answers what was read.
-// A loop over read: std's reader of lines needs the heap, and read_exact leaves open how far it came. crates/bench has its twin, since it stands
-// on no crate of the tests.
-fn read_full<'a>(rt: &impl Input, buffer: &'a mut [u8]) -> &'a [u8]
-    ensures { length result.now ≤ length buffer.old }
-{
-    let mut from = rt.reader();
-    let mut done = 0;
-    while done < buffer.len() {
-        match from.read(&mut buffer[done..]) {
-            Ok(0) | Err(_) => break,
-            Ok(n) => done += n,
-        }
-    }
-    &buffer[..done]
 }
 
 // A row ends with a line feed: what stands behind the last is printed, and no call. A row that is no text is a comment.
