@@ -1,13 +1,11 @@
 -- The output of a text: no output is longer than the buffer, and a text that is too long for a line need not be read to its end.
-use mathlib.Core.Path.{◌≡◌, sym, ap, ◌∙◌}
+use mathlib.Core.Path.{◌≡◌, ap}
 use mathlib.Core.Bool.{true}
 use mathlib.Core.List.{List, [], ◌∷◌}
 use Prim.Native.Nat.{ℕ, ◌≤◌, ◌<◌}
 use native.Mathlib.Omega.{arith}
-use borrow.Author.Tests.{leb-true, leb-false, eq-eqb, ne_eqb}
-use lib.Dec.{leb}
+use borrow.Author.Tests.{eq-eqb, ne_eqb}
 use lib.ListN.{length, take}
-use lib.Seq.{take_all, length-take-le}
 use Rattle.bits.specs.Checks.{passed, bad_line}
 use Rattle.bits.proofs.Cases.{by_cases}
 use Rattle.acm.specs.Formats.{is_format, format_of}
@@ -19,9 +17,9 @@ use Rattle.ascii.proofs.Lengths.{number-length}
 use Rattle.row.specs.declared.steps.Row.{Row}
 use Rattle.row.specs.Row.{block, row_of}
 use Rattle.row.proofs.Rows.{block-length, ones-most}
-use Rattle.job_line.specs.Line.{longest_line, is_line, format_in, pattern_in}
+use Rattle.job_line.specs.Line.{longest_line, is_line, said}
 use Rattle.job_line.specs.Job.{job_number}
-use Rattle.job_line.proofs.Lines.{line-short}
+use Rattle.job_line.proofs.Lines.{line-short, read_front}
 use Rattle.job.specs.Output.{longest_output, row_text, output}
 
 -- the header has 18 bytes, a format at most 2 digits, and the other numbers at most 5
@@ -39,7 +37,7 @@ row-length f p h =
     omega (arith, number-length 1 f (r.k ∷ r.i ∷ r.n ∷ r.ones ∷ []) (omega (arith, format_high f h)))
 
 -- the two outputs
-pub output_row : (text : List ℕ) {r : Row} → job_number text ≡ passed → r ≡ row_of (format_in text) (pattern_in text) → row_text r ≡ output text
+pub output_row : (text : List ℕ) {r : Row} → job_number text ≡ passed → r ≡ row_of (said text).format (said text).pattern → row_text r ≡ output text
 unfolding output
 output_row text e is = rw (eq-eqb _ _ e) (ap row_text is)
 
@@ -54,10 +52,4 @@ malformed text long =
     by_cases (is_line text) (λ t. absurd (omega (arith, line-short text t))) (λ f. rw f)
 
 pub output-front : (n : ℕ) (text : List ℕ) → longest_line < n → output (take n text) ≡ output text
-output-front n text h =
-    by_cases (leb (length text) n)
-    (λ t. ap output (take_all n text (leb-true _ _ t)))
-    (λ f.
-    let over = leb-false (length text) n f in
-    let long = length-take-le n text (omega arith) in
-    malformed (take n text) (omega arith) ∙ sym (malformed text (omega arith)))
+output-front n text h = read_front output (refusal_text bad_line) malformed n text h

@@ -4,7 +4,7 @@ use Rattle.bits.specs.Checks.{passed}
 use Rattle.ascii.specs.Text.{ascii, line, refusal_text}
 use Rattle.row.specs.declared.steps.Row.{Row}
 use Rattle.row.specs.Row.{row_of}
-use Rattle.job_line.specs.Line.{format_in, pattern_in}
+use Rattle.job_line.specs.Line.{said}
 use Rattle.job_line.specs.Job.{job_number}
 
 -- bytes of the longest output
@@ -22,5 +22,5 @@ row_text r = header ++ line (numbers r)
 
 unfoldable pub output : List ℕ → List ℕ
 output text =
-    if eqb (job_number text) passed then row_text (row_of (format_in text) (pattern_in text))
+    if eqb (job_number text) passed then row_text (row_of (said text).format (said text).pattern)
     else refusal_text (job_number text)

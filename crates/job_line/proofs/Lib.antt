@@ -1,5 +1,3 @@
 pub mod Checked
-pub mod Digits
-pub mod Fields
 pub mod Lines
-pub mod Scans
+pub mod Reader

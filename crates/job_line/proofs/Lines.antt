@@ -1,200 +1,233 @@
--- The reader's side of a line agrees with the writer's: a text is a line exactly if it is the text of two numbers below 1,000, and
--- exactly if it is a field, a comma, a field and a line feed at the end.
-use mathlib.Core.Path.{◌≡◌, refl, sym, ap, ap₂, ◌∙◌}
-use mathlib.Core.Bool.{true, false, ◌&&◌, false≢true}
+-- The reader agrees with the writer: a text is a line of a form exactly if it is the text of such numbers, and then it says these.
+use mathlib.Core.Path.{◌≡◌, refl, sym, ap, ◌∙◌}
+use mathlib.Core.Bool.{true, false, true≢false}
 use mathlib.Core.List.{List, [], ◌∷◌, ◌++◌}
 use mathlib.Core.Logic.{◌↔◌}
-use Prim.Native.Nat.{ℕ, ◌+◌, ◌-◌, ◌≤◌, ◌<◌}
-use native.Mathlib.Numerals.{add-one}
+use Prim.Native.Nat.{ℕ, ◌+◌, ◌*◌, ◌^◌, ◌≤◌, ◌<◌}
 use native.Mathlib.Omega.{arith}
-use borrow.Author.Tests.{eq-eqb, ne_eqb, lt-ltb, ltb-true}
-use lib.Dec.{ltb}
-use lib.ListN.{length, take, drop, length-append, length-drop, drop_of_length-le}
-use lib.Seq.{split_at, take_at, take_all, drop-append-add}
-use Rattle.std.specs.Prelude.{Some, None, position, ◌==◌}
-use Rattle.bits.specs.Place.{place}
+use borrow.Author.Tests.{leb-true, leb-false, ltb-true}
+use lib.Dec.{leb}
+use lib.ListN.{length, take, length-append}
+use lib.Seq.{take_all, length-take-le}
+use Rattle.std.specs.Prelude.{Option, Some, None}
+use Rattle.std.proofs.lemmas.Option.{none-some, same_Some}
 use Rattle.bits.specs.Same.{same}
-use Rattle.bits.proofs.Same.{same_self, same-equal}
 use Rattle.bits.proofs.Cases.{by_cases}
-use Rattle.bits.proofs.Places.{place_is}
+use Rattle.bits.proofs.Same.{same_self, same-equal}
 use Rattle.bits.proofs.Table.{left-true, right_true}
-use Rattle.ascii.specs.Text.{comma, line_feed, decimal, line}
-use Rattle.job_line.specs.Line.{WellFormed, field_limit, longest_line, is_digit, all_digits, value, before, behind, is_field, field_of, format_in, pattern_in, is_line, line_of}
-use Rattle.job_line.proofs.Digits.{decimal-digits, decimal-value}
-use Rattle.job_line.proofs.Fields.{decimal_spelled, field_written, field_read, number_read, none_read}
-use Rattle.job_line.proofs.Scans.{place_found, place-missing}
+use Rattle.ascii.specs.Text.{comma, line_feed, decimal}
+use Rattle.fields.specs.Fields.{before, behind}
+use Rattle.fields.proofs.Cuts.{before_at, behind-at}
+use Rattle.fields.proofs.Digits.{decimal-value}
+use Rattle.fields.proofs.Numbers.{decimal_spelled}
+use Rattle.job_line.specs.declared.steps.Added.{Added}
+use Rattle.job_line.specs.declared.steps.Line.{Line}
+use Rattle.job_line.specs.Line.{WellFormed, field_digits, code_digits, longest_old, longest_line, code_text, added_text, text_of, field_fits, code_fits, added_fits, fits, code_in, added_in, old_in, longer_in, is_text_of, is_old, is_longer, is_line, said, line_of}
+use Rattle.job_line.specs.Reader.{line_read}
+use Rattle.job_line.proofs.Reader.{line_written, line_is, low_of, number_without, code_without, no_dash}
 
--- where a byte stands behind digits
-module _ (b : ℕ) (other : is_digit b ≡ false) where
-  place_at : (xs ys : List ℕ) → all_digits xs ≡ true → place b (xs ++ b ∷ ys) ≡ length xs
-  unfolding place all_digits
-  place_at [] ys t = rw (eq-eqb b b refl)
-  place_at (x ∷ xs) ys t =
-      let d = left-true (is_digit x) (all_digits xs) t in
-      rw (ne_eqb x b (λ e. false≢true (sym other ∙ ap is_digit (sym e) ∙ d)), place_at xs ys (right_true (is_digit x) (all_digits xs) t))
+-- a text that is a line of a form is the text of the numbers in it, which fit
+module _ (text : List ℕ) (l : Line) (e : is_text_of text l ≡ true) where
+  low : fits l ≡ true
+  low = left-true (fits l) (same text (text_of l)) e
 
-  before_at : (xs ys : List ℕ) → all_digits xs ≡ true → before b (xs ++ b ∷ ys) ≡ xs
-  before_at xs ys t = take_at xs (b ∷ ys) _ (sym (place_at xs ys t))
+  written : text ≡ text_of l
+  written = same-equal text (text_of l) (right_true (fits l) (same text (text_of l)) e)
 
-  behind-at : (xs ys : List ℕ) → all_digits xs ≡ true → behind b (xs ++ b ∷ ys) ≡ ys
-  behind-at xs ys t = rw (place_at xs ys t, drop-append-add xs (b ∷ ys) 1)
+  well-formed : WellFormed text
+  well-formed = record { line = l; low = low; written = written }
 
-split_there : (b : ℕ) (text : List ℕ) → place b text < length text → text ≡ before b text ++ b ∷ behind b text
-split_there b text h = split_at text (place b text) 0 h ∙ rw (place_is b text h, add-one)
+  read_there : line_read text ≡ Some l
+  read_there = ap line_read written ∙ line_written l low
 
--- what the reader tests
-pub record Parts (text : List ℕ) : Type 0 where
-  pub comma-inside : place comma text < length text
-  pub feed_last : place line_feed (behind comma text) + 1 ≡ length (behind comma text)
-  pub format_field : is_field (before comma text) ≡ true
-  pub pattern_field : is_field (before line_feed (behind comma text)) ≡ true
+-- and the numbers in the text of numbers are these
+abbrev tail : ℕ → Option Added → List ℕ
+tail p a = decimal p ++ added_text a
 
--- the text of two numbers below 1,000 is a line of these numbers, and every line is the text of its numbers
-module _ (f p : ℕ) (hf : f < field_limit) (hp : p < field_limit) where
-  before-comma : before comma (line (f ∷ p ∷ [])) ≡ decimal f
-  before-comma = before_at comma refl (decimal f) (line (p ∷ [])) (decimal-digits f)
+before_comma : (f : ℕ) (rest : List ℕ) → before comma (decimal f ++ comma ∷ rest) ≡ decimal f
+before_comma f rest = before_at comma (decimal f) rest (number_without comma refl f)
 
-  behind-comma : behind comma (line (f ∷ p ∷ [])) ≡ line (p ∷ [])
-  behind-comma = behind-at comma refl (decimal f) (line (p ∷ [])) (decimal-digits f)
+behind-comma : (f : ℕ) (rest : List ℕ) → behind comma (decimal f ++ comma ∷ rest) ≡ rest
+behind-comma f rest = behind-at comma (decimal f) rest (number_without comma refl f)
 
-  before_feed : before line_feed (line (p ∷ [])) ≡ decimal p
-  before_feed = before_at line_feed refl (decimal p) [] (decimal-digits p)
+pub old_there : (f p : ℕ) → (let l : Line = record { format = f; pattern = p; added = None } in old_in (text_of l) ≡ l)
+old_there f p =
+    rw (before_comma f (tail p None), behind-comma f (tail p None), before_at line_feed (decimal p) [] (number_without line_feed refl p), decimal-value f, decimal-value p)
 
-  format-written : format_in (line (f ∷ p ∷ [])) ≡ f
-  unfolding format_in
-  format-written = ap value before-comma ∙ decimal-value f
+code_there : (c : Option ℕ) → code_in (before line_feed (code_text c ++ line_feed ∷ [])) ≡ c
+code_there None = rw (before_at line_feed (code_text None) [] (code_without None))
+code_there (Some n) = rw (before_at line_feed (decimal n) [] (code_without (Some n)), no_dash n, decimal-value n)
 
-  pattern-written : pattern_in (line (f ∷ p ∷ [])) ≡ p
-  unfolding pattern_in
-  pattern-written = ap (λ (text : List ℕ). value (before line_feed text)) behind-comma ∙ ap value before_feed ∙ decimal-value p
+added_there : (a : Added) → added_in (decimal a.pilots ++ comma ∷ (code_text a.code ++ line_feed ∷ [])) ≡ a
+added_there a =
+    let rest = code_text a.code ++ line_feed ∷ [] in
+    rw (before_comma a.pilots rest, behind-comma a.pilots rest, decimal-value a.pilots, code_there a.code)
 
-  line-written : is_line (line (f ∷ p ∷ [])) ≡ true
-  unfolding is_line
-  line-written =
-      rw (format-written, pattern-written, lt-ltb f field_limit hf, lt-ltb p field_limit hp) (same_self (line (f ∷ p ∷ [])))
+pub longer_there : (f p : ℕ) (a : Added) → (let l : Line = record { format = f; pattern = p; added = Some a } in longer_in (text_of l) ≡ l)
+longer_there f p a =
+    let rest = decimal a.pilots ++ comma ∷ (code_text a.code ++ line_feed ∷ []) in
+    rw (before_comma f (tail p (Some a)), behind-comma f (tail p (Some a)), before_comma p rest, behind-comma p rest, decimal-value f, decimal-value p, added_there a)
 
-  feed_written : place line_feed (line (p ∷ [])) + 1 ≡ length (line (p ∷ []))
-  feed_written = omega (arith, place_at line_feed refl (decimal p) [] (decimal-digits p), length-append (decimal p) (line_feed ∷ []))
+-- so the text of numbers is a line of its form
+pub old_written : (f p : ℕ) → (let l : Line = record { format = f; pattern = p; added = None } in fits l ≡ true → is_old (text_of l) ≡ true)
+unfolding is_old
+old_written f p h =
+    let l : Line = record { format = f; pattern = p; added = None } in
+    ap (is_text_of (text_of l)) (old_there f p) ∙ rw h (same_self (text_of l))
 
-  parts-written : Parts (line (f ∷ p ∷ []))
-  parts-written =
-      let at = place_at comma refl (decimal f) (line (p ∷ [])) (decimal-digits f) in
-      let long = length-append (decimal f) (comma ∷ line (p ∷ [])) in
-      record {
-        comma-inside = omega (arith, at, long);
-        feed_last = rw behind-comma feed_written;
-        format_field = rw before-comma (field_written _ f hf refl).0;
-        pattern_field = rw (behind-comma, before_feed) (field_written _ p hp refl).0;
-      }
+pub longer_written : (f p : ℕ) (a : Added) → (let l : Line = record { format = f; pattern = p; added = Some a } in fits l ≡ true → is_longer (text_of l) ≡ true)
+unfolding is_longer
+longer_written f p a h =
+    let l : Line = record { format = f; pattern = p; added = Some a } in
+    ap (is_text_of (text_of l)) (longer_there f p a) ∙ rw h (same_self (text_of l))
 
-line_read : (text : List ℕ) → is_line text ≡ true → WellFormed text
-unfolding is_line
-line_read text e =
-    let low = ltb (format_in text) field_limit in
-    let low' = ltb (pattern_in text) field_limit in
-    let is = same text (line (format_in text ∷ pattern_in text ∷ [])) in
-    let both = left-true (low && low') is e in
-    record {
-      format = format_in text;
-      pattern = pattern_in text;
-      format-low = ltb-true _ _ (left-true low low' both);
-      pattern-low = ltb-true _ _ (right_true low low' both);
-      written = same-equal _ _ (right_true (low && low') is e);
-    }
+-- a line of a form is the text of its numbers
+pub old_is : (text : List ℕ) → is_old text ≡ true → (fits (old_in text) ≡ true) × (text ≡ text_of (old_in text))
+unfolding is_old
+old_is text e = (low text (old_in text) e, written text (old_in text) e)
+
+pub longer_is : (text : List ℕ) → is_longer text ≡ true → (fits (longer_in text) ≡ true) × (text ≡ text_of (longer_in text))
+unfolding is_longer
+longer_is text e = (low text (longer_in text) e, written text (longer_in text) e)
+
+old_read : (text : List ℕ) → is_old text ≡ true → line_read text ≡ Some (old_in text)
+unfolding is_old
+old_read text e = read_there text (old_in text) e
+
+longer_read : (text : List ℕ) → is_longer text ≡ true → line_read text ≡ Some (longer_in text)
+unfolding is_longer
+longer_read text e = read_there text (longer_in text) e
+
+-- no text is a line of both forms
+pub apart : (text : List ℕ) → is_old text ≡ true → is_longer text ≡ false
+apart text old =
+    by_cases
+    (is_longer text)
+    (λ t. absurd (none-some _ (ap (λ (l : Line). l.added) (same_Some _ _ (sym (old_read text old) ∙ longer_read text t)))))
+    (λ f. f)
+
+-- what a line says
+pub said-old : (text : List ℕ) → is_old text ≡ true → said text ≡ old_in text
+unfolding said
+said-old text e = rw e
+
+pub said-longer : (text : List ℕ) → is_longer text ≡ true → said text ≡ longer_in text
+unfolding said
+said-longer text e =
+    by_cases (is_old text) (λ t. absurd (true≢false (sym e ∙ apart text t))) (λ f. rw f)
+
+-- the reader agrees
+a_line : (f p : ℕ) (a : Option Added) → (let l : Line = record { format = f; pattern = p; added = a } in fits l ≡ true → is_line (text_of l) ≡ true)
+a_line f p None h = rw (old_written f p h)
+a_line f p (Some a) h =
+    let l : Line = record { format = f; pattern = p; added = Some a } in
+    by_cases (is_old (text_of l)) (λ t. rw t) (λ n. rw (n, longer_written f p a h))
+
+no_line : (text : List ℕ) (o : Option Line) → line_read text ≡ o → is_line text ≡ false → o ≡ None
+no_line text None e n = refl
+no_line text (Some l) e n =
+    let (is, h) = line_is text l e in
+    absurd (true≢false (sym (ap is_line is ∙ a_line l.format l.pattern l.added h) ∙ n))
+
+pub read_agrees : (text : List ℕ) → line_read text ≡ line_of text
+unfolding said
+read_agrees text =
+    by_cases
+    (is_old text)
+    (λ t. rw t (old_read text t))
+    (λ f.
+    by_cases
+    (is_longer text)
+    (λ t. rw (f, t) (longer_read text t))
+    (λ n. rw (f, n) (no_line text (line_read text) refl (rw (f, n)))))
+
+line_well-formed : (text : List ℕ) → is_line text ≡ true → WellFormed text
+unfolding is_old is_longer
+line_well-formed text e =
+    by_cases
+    (is_old text)
+    (λ t. well-formed text (old_in text) t)
+    (λ f. well-formed text (longer_in text) (rw f at e))
 
 pub line_agrees : (text : List ℕ) → (is_line text ≡ true) ↔ WellFormed text
-line_agrees text = (line_read text, λ w. ap is_line w.written ∙ line-written w.format w.pattern w.format-low w.pattern-low)
+line_agrees text =
+    (line_well-formed text, λ w. ap is_line w.written ∙ a_line w.line.format w.line.pattern w.line.added w.low)
 
--- the two numbers that a line is written of are those that are read
-pub numbers_agree : (f p : ℕ) → f < field_limit → p < field_limit → line_of (line (f ∷ p ∷ [])) ≡ Some (record { format = f; pattern = p })
-numbers_agree f p hf hp = rw (line-written f p hf hp, format-written f p hf hp, pattern-written f p hf hp)
+-- a line that is read is one of its form
+pub read-old : (text : List ℕ) (l : Line) → Some l ≡ line_of text → l.added ≡ None → (is_old text ≡ true) × (l ≡ old_in text)
+unfolding said
+read-old text l e none =
+    by_cases
+    (is_old text)
+    (λ t. let e' : Some l ≡ Some (old_in text) = rw t at e in (t, same_Some _ _ e'))
+    (λ f.
+    by_cases
+    (is_longer text)
+    (λ t. let e' : Some l ≡ Some (longer_in text) = rw (f, t) at e in absurd (none-some _ (sym none ∙ ap (λ (l : Line). l.added) (same_Some _ _ e'))))
+    (λ n. let e' : Some l ≡ None = rw (f, n) at e in absurd (none-some _ (sym e'))))
+
+pub read-longer : (text : List ℕ) (l : Line) (a : Added) → Some l ≡ line_of text → l.added ≡ Some a → (is_longer text ≡ true) × (l ≡ longer_in text)
+unfolding said
+read-longer text l a e some =
+    by_cases
+    (is_old text)
+    (λ t. let e' : Some l ≡ Some (old_in text) = rw t at e in absurd (none-some _ (sym (ap (λ (l : Line). l.added) (same_Some _ _ e')) ∙ some)))
+    (λ f.
+    by_cases
+    (is_longer text)
+    (λ t. let e' : Some l ≡ Some (longer_in text) = rw (f, t) at e in (t, same_Some _ _ e'))
+    (λ n. let e' : Some l ≡ None = rw (f, n) at e in absurd (none-some _ (sym e'))))
+
+-- the numbers that a line is written of are those that are read
+pub numbers_agree : (l : Line) → fits l ≡ true → line_of (text_of l) ≡ Some l
+numbers_agree l h = sym (read_agrees (text_of l)) ∙ line_written l h
+
+-- how long a line is
+number-short : (n : ℕ) → field_fits n ≡ true → length (decimal n) ≤ field_digits
+number-short n h = (decimal_spelled field_digits n (omega arith) (ltb-true n (10 ^ field_digits) h)).short
+
+code-short : (c : Option ℕ) → code_fits c ≡ true → length (code_text c) ≤ code_digits
+code-short None h = omega arith
+code-short (Some n) h = (decimal_spelled code_digits n (omega arith) (ltb-true n (10 ^ code_digits) h)).short
+
+front-length : (f p : ℕ) (a : Option Added) → (let l : Line = record { format = f; pattern = p; added = a } in fits l ≡ true → length (text_of l) ≤ 2 * field_digits + 1 + length (added_text a))
+front-length f p a h =
+    let l : Line = record { format = f; pattern = p; added = a } in
+    let fit = low_of l h in
+    omega (arith, length-append (decimal f) (comma ∷ tail p a), length-append (decimal p) (added_text a), number-short f fit.format, number-short p fit.pattern)
+
+added-length : (a : Added) → added_fits (Some a) ≡ true → length (added_text (Some a)) ≤ field_digits + code_digits + 3
+added-length a h =
+    let rest = code_text a.code ++ line_feed ∷ [] in
+    omega (arith, length-append (decimal a.pilots) (comma ∷ rest), length-append (code_text a.code) (line_feed ∷ []), number-short a.pilots (left-true (field_fits a.pilots) (code_fits a.code) h), code-short a.code (right_true (field_fits a.pilots) (code_fits a.code) h))
+
+pub old-short : (text : List ℕ) → is_old text ≡ true → length text ≤ longest_old
+old-short text e =
+    let (h, is) = old_is text e in
+    let l = old_in text in
+    omega (arith, ap length is, front-length l.format l.pattern None h)
+
+pub longer-short : (text : List ℕ) → is_longer text ≡ true → length text ≤ longest_line
+longer-short text e =
+    let (h, is) = longer_is text e in
+    let l = longer_in text in
+    let a = added_in (behind comma (behind comma text)) in
+    omega (arith, ap length is, front-length l.format l.pattern l.added h, added-length a (low_of l h).added)
 
 pub line-short : (text : List ℕ) → is_line text ≡ true → length text ≤ longest_line
 line-short text e =
-    let w = line_read text e in
-    let long = length-append (decimal w.format) (comma ∷ line (w.pattern ∷ [])) in
-    let long' = length-append (decimal w.pattern) (line_feed ∷ []) in
-    let s = decimal_spelled w.format w.format-low in
-    let s' = decimal_spelled w.pattern w.pattern-low in
-    omega (arith, ap length w.written, s.short, s'.short)
+    by_cases
+    (is_old text)
+    (λ t. omega (arith, old-short text t))
+    (λ f. longer-short text (rw f at e))
 
--- the reader's tests are those of a line
-parts_of_line : (text : List ℕ) → is_line text ≡ true → Parts text
-parts_of_line text e =
-    let w = line_read text e in
-    rw w.written (parts-written w.format w.pattern w.format-low w.pattern-low)
-
-line_of-parts : (text : List ℕ) → Parts text → is_line text ≡ true
-line_of-parts text parts =
-    let rest = behind comma text in
-    let ended : behind line_feed rest ≡ [] = drop_of_length-le rest {i = place line_feed rest + 1} (omega (arith, parts.feed_last)) in
-    let (low, is) = field_read (before comma text) parts.format_field in
-    let (low', is') = field_read (before line_feed rest) parts.pattern_field in
-    let tail : rest ≡ line (value (before line_feed rest) ∷ []) = split_there line_feed rest (omega (arith, parts.feed_last)) ∙ ap₂ (λ (a b : List ℕ). a ++ line_feed ∷ b) is' ended in
-    (line_agrees text).1
-    (record {
-      format = value (before comma text);
-      pattern = value (before line_feed rest);
-      format-low = low;
-      pattern-low = low';
-      written = split_there comma text parts.comma-inside ∙ ap₂ (λ (a b : List ℕ). a ++ comma ∷ b) is tail;
-    })
-
--- the exits of the reader: there is no comma; or the comma is at k, and the rest behind it has its line feed at j
-no_line : (text : List ℕ) → (Parts text → ⊥) → None ≡ line_of text
-no_line text n = by_cases (is_line text) (λ t. absurd (n (parts_of_line text t))) (λ f. rw f)
-
-pub no_comma : (text : List ℕ) → None ≡ position (λ b. b == comma) text → None ≡ line_of text
-no_comma text e = no_line text (λ p. omega (arith, p.comma-inside, place-missing comma text e))
-
-module _ (text : List ℕ) (k : ℕ) (found : Some k ≡ position (λ b. b == comma) text) where
-  abbrev at-comma : k ≡ place comma text
-  at-comma = (place_found comma text k found).0
-
-  abbrev rest : List ℕ
-  rest = take (length text - (k + 1)) (drop (k + 1) text)
-
-  rest-is : behind comma text ≡ rest
-  rest-is =
-      ap (λ (n : ℕ). drop (n + 1) text) (sym at-comma)
-      ∙ sym (take_all (length text - (k + 1)) (drop (k + 1) text) (simp length-drop (omega arith)))
-
-  format_field : before comma text ≡ take k text
-  format_field = ap (λ (n : ℕ). take n text) (sym at-comma)
-
-  pub no_feed : None ≡ position (λ b. b == line_feed) rest → None ≡ line_of text
-  no_feed e =
-      no_line text (λ p. omega (arith, rw rest-is at p.feed_last, place-missing line_feed rest e))
-
-  module _ (j : ℕ) (ended : Some j ≡ position (λ b. b == line_feed) rest) where
-    abbrev at-feed : j ≡ place line_feed rest
-    at-feed = (place_found line_feed rest j ended).0
-
-    pattern_field : before line_feed (behind comma text) ≡ take j rest
-    pattern_field = ap (before line_feed) rest-is ∙ ap (λ (n : ℕ). take n rest) (sym at-feed)
-
-    feed_place : place line_feed (behind comma text) ≡ j
-    feed_place = ap (place line_feed) rest-is ∙ sym at-feed
-
-    pub no_end : (j + 1 ≡ length rest → ⊥) → None ≡ line_of text
-    no_end n = no_line text (λ p. n (rw (← feed_place, ← rest-is) p.feed_last))
-
-    pub no_format : None ≡ field_of (take k text) → None ≡ line_of text
-    no_format e = no_line text (λ p. false≢true (sym (none_read _ e) ∙ ap is_field (sym format_field) ∙ p.format_field))
-
-    pub no_pattern : None ≡ field_of (take j rest) → None ≡ line_of text
-    no_pattern e = no_line text (λ p. false≢true (sym (none_read _ e) ∙ ap is_field (sym pattern_field) ∙ p.pattern_field))
-
-    pub two_numbers : {f p : ℕ} → j + 1 ≡ length rest → Some f ≡ field_of (take k text) → Some p ≡ field_of (take j rest)
-        → Some (record { format = f; pattern = p }) ≡ line_of text
-    unfolding format_in pattern_in
-    two_numbers {f} {p} last ef ep =
-        let (is, v) = number_read (take k text) f ef in
-        let (is', v') = number_read (take j rest) p ep in
-        let parts : Parts text = record {
-          comma-inside = omega (arith, (place_found comma text k found).1, at-comma);
-          feed_last = rw (feed_place, rest-is) last;
-          format_field = rw format_field is;
-          pattern_field = rw pattern_field is';
-        } in
-        ap₂ (λ (f p : ℕ). Some (record { format = f; pattern = p })) (v ∙ ap value (sym format_field)) (v' ∙ ap value (sym pattern_field)) ∙ rw (line_of-parts text parts)
+-- so of a text that is too long for a line no more need be read than shows it
+pub read_front : {A : Type 0} (g : List ℕ → A) (refusal : A) → ((text : List ℕ) → longest_line < length text → g text ≡ refusal)
+    → (n : ℕ) (text : List ℕ) → longest_line < n → g (take n text) ≡ g text
+read_front g refusal long-refused n text h =
+    by_cases (leb (length text) n)
+    (λ t. ap g (take_all n text (leb-true _ _ t)))
+    (λ f.
+    let over = leb-false (length text) n f in
+    let long = length-take-le n text (omega arith) in
+    long-refused (take n text) (omega arith) ∙ sym (long-refused text (omega arith)))

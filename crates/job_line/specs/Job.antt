@@ -1,48 +1,87 @@
--- The job that a text asks for, or the number of the check that refuses it: 6, then 1, then 7.
-use Rattle.std.specs.Prelude.{List, [], ◌∷◌, ℕ, eqb, ltb, if◌then◌else◌, Result, Ok, Err}
-use Rattle.bits.specs.Checks.{Check, ◌or_else◌, first_failed, check_number, passed, bad_format, bad_line, bad_pattern}
+-- The job that a text asks for, or the number of the check that refuses it: 6, then 1, 7, 14 and 16.
+use Rattle.std.specs.Prelude.{Bool, true, List, [], ◌∷◌, ◌++◌, ℕ, eqb, leb, ltb, if◌then◌else◌, Option, Some, None, option_map, Result, Ok, Err}
+use Rattle.bits.specs.Checks.{Check, ◌or_else◌, first_failed, check_number, passed, bad_format, bad_line, bad_pattern, bad_pilots, bad_code}
 use Rattle.bits.specs.declared.checks.Refusal.{Refusal}
 use Rattle.acm.specs.Formats.{is_format}
+use Rattle.header.specs.Descriptor.{choice_number, pilots_off, pilots_on}
+use Rattle.scrambling.specs.Code.{is_code}
+use Rattle.job_line.specs.declared.steps.Added.{Added}
+use Rattle.job_line.specs.declared.steps.Line.{Line}
 use Rattle.job_line.specs.declared.Job.{Job}
-use Rattle.job_line.specs.Line.{is_line, format_in, pattern_in}
+use Rattle.job_line.specs.Line.{is_line, said}
 
 -- the patterns 0, 1 and 2
 abbrev pub patterns : ℕ
 patterns = 3
 
--- of the two numbers of a line
-abbrev pub numbers_checks : ℕ → ℕ → List Check
-numbers_checks f p =
-    is_format f or_else bad_format
-    ∷ ltb p patterns or_else bad_pattern
+-- a line of the old form has no pilots, and nothing of it is scrambled
+abbrev pub pilots_of : Option Added → ℕ
+pilots_of None = pilots_off
+pilots_of (Some a) = a.pilots
+
+abbrev pub code_of : Option Added → Option ℕ
+code_of None = None
+code_of (Some a) = a.code
+
+abbrev pub code_legal : Option ℕ → Bool
+code_legal None = true
+code_legal (Some n) = is_code n
+
+-- of what a line of the old form says, and of what the longer says besides
+abbrev pub numbers_checks : Line → List Check
+numbers_checks l =
+    is_format l.format or_else bad_format
+    ∷ ltb l.pattern patterns or_else bad_pattern
     ∷ []
 
-unfoldable pub numbers_number : ℕ → ℕ → ℕ
-numbers_number f p = first_failed (numbers_checks f p)
+abbrev pub added_checks : Line → List Check
+added_checks l =
+    leb (pilots_of l.added) pilots_on or_else bad_pilots
+    ∷ code_legal (code_of l.added) or_else bad_code
+    ∷ []
+
+abbrev pub said_checks : Line → List Check
+said_checks l = numbers_checks l ++ added_checks l
+
+-- of a code number alone
+abbrev pub code_number : Option ℕ → ℕ
+code_number code = first_failed (code_legal code or_else bad_code ∷ [])
+
+unfoldable pub said_number : Line → ℕ
+said_number l = first_failed (said_checks l)
 
 abbrev pub job_checks : List ℕ → List Check
-job_checks text = is_line text or_else bad_line ∷ numbers_checks (format_in text) (pattern_in text)
+job_checks text = is_line text or_else bad_line ∷ said_checks (said text)
 
 unfoldable pub job_number : List ℕ → ℕ
 job_number text = first_failed (job_checks text)
 
--- an answer in numbers: a refusal has 0 in every other field
+-- an answer in numbers: a refusal has 0 in every other field, and no code number
 pub record Answer : Type 0 where
   pub number : ℕ
   pub format : ℕ
   pub pattern : ℕ
+  pub pilots : ℕ
+  pub code : Option ℕ
 
-abbrev pub accepted : ℕ → ℕ → Answer
-accepted f p = record { number = passed; format = f; pattern = p }
+abbrev pub accepted : Line → Answer
+accepted l = record { number = passed; format = l.format; pattern = l.pattern; pilots = pilots_of l.added; code = code_of l.added }
 
 abbrev pub refused : ℕ → Answer
-refused number = record { number = number; format = 0; pattern = 0 }
+refused number = record { number = number; format = 0; pattern = 0; pilots = 0; code = None }
+
+-- the numbers of a job
+abbrev pub line_of_job : Job → Line
+line_of_job job =
+    record {
+      format = job.format.number;
+      pattern = job.pattern;
+      added = Some (record { pilots = choice_number job.pilots; code = option_map (λ c. c.number) job.code });
+    }
 
 abbrev pub answer_of : Result Job Refusal → Answer
-answer_of (Ok job) = accepted job.format.number job.pattern
+answer_of (Ok job) = accepted (line_of_job job)
 answer_of (Err refusal) = refused (check_number refusal)
 
 abbrev pub asked : List ℕ → Answer
-asked text =
-    if eqb (job_number text) passed then accepted (format_in text) (pattern_in text)
-    else refused (job_number text)
+asked text = if eqb (job_number text) passed then accepted (said text) else refused (job_number text)

@@ -1,69 +1,97 @@
--- The job line: format, comma, pattern, line feed, end.
-use Rattle.std.specs.Prelude.{◌≡◌, Bool, true, ◌&&◌, List, [], ◌∷◌, map, ℕ, ◌+◌, ◌-◌, ◌*◌, ◌^◌, ◌<◌, leb, ltb, take, drop, if◌then◌else◌, Option, Some, None}
-use Rattle.bits.specs.Digits.{value_from}
-use Rattle.bits.specs.Place.{place}
+-- The job line: format, comma, pattern, line feed, end. In its longer form a comma, the pilot choice, a comma and the code number stand before the
+-- line feed, or a dash for the code number where nothing is scrambled.
+use Rattle.std.specs.Prelude.{◌≡◌, Bool, true, ◌&&◌, ◌||◌, List, [], ◌∷◌, ◌++◌, ℕ, ◌+◌, ◌*◌, ◌^◌, ltb, if◌then◌else◌, Option, Some, None}
 use Rattle.bits.specs.Same.{same}
-use Rattle.job_line.specs.declared.line.Numbers.{Numbers}
-use Rattle.ascii.specs.Text.{comma, line_feed, zero_digit, nine_digit, decimal, line}
+use Rattle.ascii.specs.Text.{comma, line_feed, dash, decimal}
+use Rattle.fields.specs.Fields.{value, before, behind}
+use Rattle.job_line.specs.declared.steps.Added.{Added}
+use Rattle.job_line.specs.declared.steps.Line.{Line}
 
--- a field has at most so many digits, and its number is below this one
+-- a field has at most so many digits, the code number so many
 abbrev pub field_digits : ℕ
 field_digits = 3
 
-abbrev pub field_limit : ℕ
-field_limit = 10 ^ field_digits
+abbrev pub code_digits : ℕ
+code_digits = 6
 
--- bytes of the longest line: two such fields, the comma and the line feed
+-- bytes of the longest line of the old form and of the longer: the fields, a comma between any two of them, and the line feed
+abbrev pub longest_old : ℕ
+longest_old = 2 * field_digits + 2
+
 abbrev pub longest_line : ℕ
-longest_line = 2 * field_digits + 2
+longest_line = 3 * field_digits + code_digits + 4
 
--- the writer's side: a line is well formed exactly if it is the text of two such numbers
+-- the writer's side: the text of a line's numbers, and which numbers a line can have
+abbrev pub code_text : Option ℕ → List ℕ
+code_text None = dash ∷ []
+code_text (Some n) = decimal n
+
+abbrev pub added_text : Option Added → List ℕ
+added_text None = line_feed ∷ []
+added_text (Some a) = comma ∷ decimal a.pilots ++ comma ∷ (code_text a.code ++ line_feed ∷ [])
+
+abbrev pub text_of : Line → List ℕ
+text_of l = decimal l.format ++ comma ∷ (decimal l.pattern ++ added_text l.added)
+
+abbrev pub field_fits : ℕ → Bool
+field_fits n = ltb n (10 ^ field_digits)
+
+abbrev pub code_fits : Option ℕ → Bool
+code_fits None = true
+code_fits (Some n) = ltb n (10 ^ code_digits)
+
+abbrev pub added_fits : Option Added → Bool
+added_fits None = true
+added_fits (Some a) = field_fits a.pilots && code_fits a.code
+
+abbrev pub fits : Line → Bool
+fits l = field_fits l.format && field_fits l.pattern && added_fits l.added
+
+-- a line is well formed exactly if it is the text of such numbers
 pub record WellFormed (text : List ℕ) : Type 0 where
-  pub format : ℕ
-  pub pattern : ℕ
-  pub format-low : format < field_limit
-  pub pattern-low : pattern < field_limit
-  pub written : text ≡ line (format ∷ pattern ∷ [])
+  pub line : Line
+  pub low : fits line ≡ true
+  pub written : text ≡ text_of line
 
--- the reader's side: the number that decimal digits write, behind those of n
-abbrev pub value_behind : ℕ → List ℕ → ℕ
-value_behind n digits = value_from 10 n (map (λ d. d - zero_digit) digits)
+-- the reader's side: the numbers that stand where those of the old form would, and of the longer
+abbrev pub old_in : List ℕ → Line
+old_in text =
+    record {
+      format = value (before comma text);
+      pattern = value (before line_feed (behind comma text));
+      added = None;
+    }
 
-abbrev pub value : List ℕ → ℕ
-value = value_behind 0
+abbrev pub code_in : List ℕ → Option ℕ
+code_in text = if same text (dash ∷ []) then None else Some (value text)
 
-abbrev pub is_digit : ℕ → Bool
-is_digit b = leb zero_digit b && leb b nine_digit
+abbrev pub added_in : List ℕ → Added
+added_in text = record { pilots = value (before comma text); code = code_in (before line_feed (behind comma text)) }
 
-unfoldable pub all_digits : List ℕ → Bool
-all_digits [] = true
-all_digits (b ∷ bs) = is_digit b && all_digits bs
+abbrev pub longer_in : List ℕ → Line
+longer_in text =
+    record {
+      format = value (before comma text);
+      pattern = value (before comma (behind comma text));
+      added = Some (added_in (behind comma (behind comma text)));
+    }
 
--- what stands before the first of a byte, and behind it
-abbrev pub before : ℕ → List ℕ → List ℕ
-before b text = take (place b text) text
+-- a text is a line of a form if it is the text of these
+abbrev pub is_text_of : List ℕ → Line → Bool
+is_text_of text l = fits l && same text (text_of l)
 
-abbrev pub behind : ℕ → List ℕ → List ℕ
-behind b text = drop (place b text + 1) text
+unfoldable pub is_old : List ℕ → Bool
+is_old text = is_text_of text (old_in text)
 
--- a text is a field if it is the text of its own value
-unfoldable pub is_field : List ℕ → Bool
-is_field text = ltb (value text) field_limit && same text (decimal (value text))
+unfoldable pub is_longer : List ℕ → Bool
+is_longer text = is_text_of text (longer_in text)
 
-abbrev pub field_of : List ℕ → Option ℕ
-field_of text = if is_field text then Some (value text) else None
+abbrev pub is_line : List ℕ → Bool
+is_line text = is_old text || is_longer text
 
--- the two numbers of a text, if it is a line at all
-unfoldable pub format_in : List ℕ → ℕ
-format_in text = value (before comma text)
+-- what a line says
+unfoldable pub said : List ℕ → Line
+said text = if is_old text then old_in text else longer_in text
 
-unfoldable pub pattern_in : List ℕ → ℕ
-pattern_in text = value (before line_feed (behind comma text))
-
-unfoldable pub is_line : List ℕ → Bool
-is_line text =
-    ltb (format_in text) field_limit && ltb (pattern_in text) field_limit
-    && same text (line (format_in text ∷ pattern_in text ∷ []))
-
-abbrev pub line_of : List ℕ → Option Numbers
-line_of text = if is_line text then Some (record { format = format_in text; pattern = pattern_in text }) else None
+abbrev pub line_of : List ℕ → Option Line
+line_of text = if is_line text then Some (said text) else None

@@ -1,48 +1,36 @@
-// The job line of the bench.
+// The job line of the bench, in both of its forms.
 #![tactic(auto)]
 
-ghost use Rattle.std.specs.Prelude.{◌≡◌, IfOk};
-ghost use Rattle.bits.specs.Checks.{number_of};
-ghost use Rattle.job_line.specs.Job.{answer_of, asked, numbers_number};
+ghost use Rattle.std.specs.Prelude.{◌≡◌};
+ghost use Rattle.job_line.specs.Job.{answer_of, asked};
 
 use acm::AcmFormat;
 use bits::Refusal;
-use line::Numbers;
+use header::Pilots;
+use scrambling::CodeNumber;
 
-mod line;
+pub mod steps;
 
-// Bytes of the longest well-formed line.
-pub const LONGEST: usize = 8;
+// Bytes of the longest well-formed line of the old form, and of the longer.
+pub const LONGEST_OLD: usize = 8;
 
-// The last of the patterns 0, 1 and 2.
-const LAST_PATTERN: u64 = 2;
+pub const LONGEST: usize = 19;
 
 // What a job line asks for. The pattern is a number, as row::make takes it: that promises a row for any number, and an enum would take fewer.
 #[derive(Clone, Copy, Debug, PartialEq, Eq)]
 pub struct Job {
     pub format: AcmFormat,
     pub pattern: u64,
+    pub pilots: Pilots,
+    // None where nothing is scrambled.
+    pub code: Option<CodeNumber>,
 }
 
-// The job that a text asks for, for any bytes.
-// Checks: 6, the text is a well-formed line; 1; 7.
+// The job that a text asks for, for any bytes. A line of the old form asks for no pilots and for nothing scrambled.
+// Checks: 6, the text is a well-formed line of either form; 1; 7; 14; 16.
 pub fn parse(text: &[u8]) -> Result<Job, Refusal>
     ensures { answer_of result ≡ asked text.now }
 {
-    let numbers = line::read(text).ok_or(Refusal::Line)?;
-    check_numbers(numbers)
-}
-
-// The job of a line's two numbers, if the checks of both hold.
-#[tactic(auto, unfolding(crate::specs::Job::numbers_number))]
-fn check_numbers(numbers: Numbers) -> Result<Job, Refusal>
-    ensures number { number_of result ≡ numbers_number numbers.format numbers.pattern }
-    ensures known { IfOk result (λ job. (job.format.number ≡ numbers.format) × (job.pattern ≡ numbers.pattern)) }
-{
-    let format = AcmFormat::try_from(numbers.format)?;
-    let pattern = numbers.pattern;
-    if LAST_PATTERN < pattern {
-        return Err(Refusal::Pattern);
-    }
-    Ok(Job { format, pattern })
+    let line = steps::read(text).ok_or(Refusal::Line)?;
+    steps::check(line)
 }

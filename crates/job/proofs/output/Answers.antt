@@ -1,5 +1,5 @@
 -- The answer for the text decides which text is put.
-use mathlib.Core.Path.{◌≡◌, subst, ap₂, ◌∙◌}
+use mathlib.Core.Path.{◌≡◌, refl, subst, ap₂, ◌∙◌}
 use mathlib.Core.List.{List}
 use Prim.Native.Nat.{ℕ}
 use lib.ListN.{length}
@@ -13,13 +13,13 @@ use Rattle.job.proofs.output.Goals as goal
 
 pub put_row-requires : goal.put_row-requires
 put_row-requires c =
-    let (pass, f, p) = run-read _ _ _ c.in-Ok.ensures in
+    let (pass, f, p) = run-read _ _ refl c.in-Ok.ensures in
     (rw (c.make.ensures ∙ ap₂ row_of f p) (row-length _ _ (job_passed c.args.text.now pass).format), search rules)
 
 pub returns-in-Ok : goal.returns-in-Ok
 returns-in-Ok c =
     let a = c.args in
-    let (pass, f, p) = run-read _ _ _ c.in-Ok.ensures in
+    let (pass, f, p) = run-read _ _ refl c.in-Ok.ensures in
     let e = output_row a.text.now pass (c.make.ensures ∙ ap₂ row_of f p) in
     record {
       length = subst (λ (text : List ℕ). c.put_row.result ≡ length text) e c.put_row.ensures.value;

@@ -1,17 +1,17 @@
-use Prim.Native.Nat.{◌≤◌, ◌<◌}
+use Prim.Native.Nat.{◌^◌, ◌≤◌, ◌<◌}
 use native.Mathlib.Omega.{arith}
 use lib.ListN.{get_or, drop}
 use Rattle.ascii.specs.Text.{zero_digit, nine_digit}
-use Rattle.job_line.specs.Line.{field_limit}
-use Rattle.job_line.proofs.Fields.{value_grows, field_low, digits-at}
-use Rattle.job_line.proofs.line.value.Goals.{In-loop-digit}
-use Rattle.job_line.proofs.line.value.Goals as goal
+use Rattle.fields.specs.Fields.{most_digits}
+use Rattle.fields.proofs.Numbers.{value_grows, value-bound, digits-at}
+use Rattle.fields.proofs.steps.value.Goals.{In-loop-digit}
+use Rattle.fields.proofs.steps.value.Goals as goal
 
-low : (c : In-loop-digit) → c.loop-digit.n < field_limit
+low : (c : In-loop-digit) → c.loop-digit.n < 10 ^ most_digits
 low c =
     let digits = c.args.digits.now in
     let l = c.loop-digit in
-    omega (arith, value_grows l.n (drop l.digit-index digits), l.invariant, field_low digits c.requires.0 c.requires.1)
+    omega (arith, value_grows l.n (drop l.digit-index digits), l.invariant, value-bound most_digits digits c.requires.0 c.requires.1)
 
 digit-of : (c : In-loop-digit) → (let b = get_or c.args.digits.now c.loop-digit.digit-index 0 in (zero_digit ≤ b) × (b ≤ nine_digit))
 digit-of c = digits-at _ c.requires.1 _ c.loop-digit-test.true

@@ -13,7 +13,7 @@ use Rattle.bits.proofs.Digits.{value-last}
 use Rattle.bits.proofs.Table.{left-true, right_true}
 use Rattle.ascii.specs.Text.{zero_digit, nine_digit, digit, decimal}
 use Rattle.ascii.proofs.Decimal.{decimal-one, decimal-more, decimal-some}
-use Rattle.job_line.specs.Line.{is_digit, all_digits, value}
+use Rattle.fields.specs.Fields.{is_digit, all_digits, value}
 
 digits_last : (xs : List ℕ) (d : ℕ) → all_digits xs ≡ true → is_digit d ≡ true → all_digits (xs ++ d ∷ []) ≡ true
 unfolding all_digits

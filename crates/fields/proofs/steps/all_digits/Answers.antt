@@ -4,9 +4,9 @@ use mathlib.Core.Logic.{◌↔◌}
 use borrow.Author.Rules.{rules}
 use Rattle.std.specs.Prelude.{IsTrue}
 use Rattle.std.specs.List.{All}
-use Rattle.job_line.specs.Line.{is_digit}
-use Rattle.job_line.proofs.Scans.{digits_checked}
-use Rattle.job_line.proofs.line.all_digits.Goals as goal
+use Rattle.fields.specs.Fields.{is_digit}
+use Rattle.fields.proofs.Scans.{digits_checked}
+use Rattle.fields.proofs.steps.all_digits.Goals as goal
 
 pub returns : goal.returns
 returns c =

@@ -1,8 +1,9 @@
--- A text is a field exactly if it has 1 to 3 digits without a leading zero.
-use mathlib.Core.Path.{◌≡◌, sym, ap, ◌∙◌}
-use mathlib.Core.Bool.{true, false}
+-- A text is a field of at most k digits exactly if it has 1 to k digits without a leading zero.
+use mathlib.Core.Path.{◌≡◌, sym, ◌∙◌}
+use mathlib.Core.Bool.{true}
 use mathlib.Core.List.{List, [], ◌∷◌, ◌++◌, append-nil, append_assoc}
-use Prim.Native.Nat.{ℕ, zero, suc, ◌+◌, ◌-◌, ◌*◌, ◌≤◌, ◌<◌}
+use Prim.Native.Nat.{ℕ, zero, suc, ◌+◌, ◌-◌, ◌*◌, ◌^◌, ◌≤◌, ◌<◌}
+use native.Mathlib.Nat.{mul_assoc, mul_comm, pow-le-pow_right, pow-succ'}
 use native.Mathlib.Omega.{arith}
 use borrow.Author.Tests.{leb-true, ltb-true, eqb-true, eqb-false, lt-ltb}
 use lib.Dec.{eqb, leb, ltb}
@@ -14,40 +15,39 @@ use Rattle.bits.proofs.Table.{left-true, right_true}
 use Rattle.std.specs.Prelude.{Some, None}
 use Rattle.ascii.specs.Text.{zero_digit, nine_digit, digit, decimal}
 use Rattle.ascii.proofs.Decimal.{decimal-one, decimal_push, decimal-some, decimal-length}
-use Rattle.job_line.specs.Line.{field_digits, field_limit, is_digit, all_digits, value_behind, value, is_field, field_of}
-use Rattle.job_line.proofs.Digits.{decimal-digits, decimal-value, decimal-leads}
+use Rattle.fields.specs.Fields.{is_digit, all_digits, value_behind, value, is_field, field_of}
+use Rattle.fields.proofs.Digits.{decimal-digits, decimal-value, decimal-leads}
 
-pub record Spelled (text : List ℕ) : Type 0 where
+pub record Spelled (k : ℕ) (text : List ℕ) : Type 0 where
   pub some : 0 < length text
-  pub short : length text ≤ field_digits
+  pub short : length text ≤ k
   pub leads : get_or text 0 0 ≡ zero_digit → length text ≡ 1
   pub digits : all_digits text ≡ true
 
--- the writer's side: the text of each number below 1,000 is spelled so
-pub decimal_spelled : (n : ℕ) → n < field_limit → Spelled (decimal n)
-decimal_spelled n h =
+-- the writer's side: the text of each number below 10^k is spelled so
+pub decimal_spelled : (k n : ℕ) → 0 < k → n < 10 ^ k → Spelled k (decimal n)
+decimal_spelled zero n some h = absurd (omega arith)
+decimal_spelled (suc k) n some h =
     record {
       some = decimal-some n;
-      short = decimal-length 2 n h;
+      short = decimal-length k n h;
       leads = decimal-leads n;
       digits = decimal-digits n;
     }
 
--- the text of a number below 1,000 is a field, and every field is one
-pub field_written : (text : List ℕ) (n : ℕ) → n < field_limit → text ≡ decimal n → (is_field text ≡ true) × (value text ≡ n)
+-- the text of a number below 10^k is a field, and every field is one
+pub field_written : (k n : ℕ) → n < 10 ^ k → is_field k (decimal n) ≡ true
 unfolding is_field
-field_written text n h e =
-    let v : value text ≡ n = ap value e ∙ decimal-value n in
-    (rw (v, lt-ltb n field_limit h, e) (same_self (decimal n)), v)
+field_written k n h = rw (decimal-value n, lt-ltb n (10 ^ k) h) (same_self (decimal n))
 
-pub field_read : (text : List ℕ) → is_field text ≡ true → (value text < field_limit) × (text ≡ decimal (value text))
+pub field_read : (k : ℕ) (text : List ℕ) → is_field k text ≡ true → (value text < 10 ^ k) × (text ≡ decimal (value text))
 unfolding is_field
-field_read text e =
-    let low = ltb (value text) field_limit in
+field_read k text e =
+    let low = ltb (value text) (10 ^ k) in
     let is = same text (decimal (value text)) in
     (ltb-true _ _ (left-true low is e), same-equal _ _ (right_true low is e))
 
--- the reader's side: 1 to 3 digits without a leading zero are the text of their value
+-- the reader's side: digits without a leading zero are the text of their value
 digit_low : (b : ℕ) → is_digit b ≡ true → zero_digit ≤ b
 digit_low b t = leb-true zero_digit b (left-true (leb zero_digit b) (leb b nine_digit) t)
 
@@ -74,25 +74,18 @@ pub value_grows : (n : ℕ) (ds : List ℕ) → n ≤ value_behind n ds
 value_grows n [] = omega arith
 value_grows n (d ∷ ds) = omega (arith, value_grows (10 * n + (d - zero_digit)) ds)
 
-abbrev zeros : ℕ → List ℕ → ℕ
-zeros m [] = m
-zeros m (d ∷ ds) = zeros (10 * m) ds
-
-value_low : (m n : ℕ) (ds : List ℕ) → n < m → all_digits ds ≡ true → value_behind n ds < zeros m ds
-value_low m n [] h t = h
+value_low : (m n : ℕ) (ds : List ℕ) → n < m → all_digits ds ≡ true → value_behind n ds < m * 10 ^ length ds
+value_low m n [] h t = omega arith
 value_low m n (d ∷ ds) h t =
     let (low, high) = digits_head d ds t in
-    value_low (10 * m) (10 * n + (d - zero_digit)) ds (omega arith) (digits-tail d ds t)
+    let one_more : 10 * m * 10 ^ length ds ≡ m * 10 ^ suc (length ds) =
+      rw (pow-succ' 10 (length ds), mul_comm 10 m) (mul_assoc m 10 (10 ^ length ds)) in
+    omega (arith, value_low (10 * m) (10 * n + (d - zero_digit)) ds (omega arith) (digits-tail d ds t), one_more)
 
-pub field_low : (text : List ℕ) → length text ≤ field_digits → all_digits text ≡ true → value text < field_limit
-field_low text short t = omega (arith, value_low 1 0 text (omega arith) t, most text short)
-  where
-    most : (text : List ℕ) → length text ≤ field_digits → zeros 1 text ≤ field_limit
-    most [] h = omega arith
-    most (a ∷ []) h = omega arith
-    most (a ∷ b ∷ []) h = omega arith
-    most (a ∷ b ∷ c ∷ []) h = omega arith
-    most (a ∷ b ∷ c ∷ d ∷ text) h = absurd (omega arith)
+pub value-bound : (k : ℕ) (text : List ℕ) → length text ≤ k → all_digits text ≡ true → value text < 10 ^ k
+value-bound k text short t =
+    let grows : 10 ^ length text ≤ 10 ^ k = pow-le-pow_right (omega arith) short in
+    omega (arith, value_low 1 0 text (omega arith) t, grows)
 
 decimal-behind : (n : ℕ) (ds : List ℕ) → 0 < n → all_digits ds ≡ true → decimal (value_behind n ds) ≡ decimal n ++ ds
 decimal-behind n [] h t = sym (append-nil (decimal n))
@@ -102,9 +95,9 @@ decimal-behind n (d ∷ ds) h t =
     decimal-behind (10 * n + (d - zero_digit)) ds (omega arith) (digits-tail d ds t)
     ∙ rw (decimal_push n (d - zero_digit) h (omega arith), is, append_assoc)
 
-pub decimal_of : (text : List ℕ) → Spelled text → text ≡ decimal (value text)
-decimal_of [] spelled = absurd (omega (arith, spelled.some))
-decimal_of (a ∷ ds) spelled =
+pub decimal_of : (k : ℕ) (text : List ℕ) → Spelled k text → text ≡ decimal (value text)
+decimal_of k [] spelled = absurd (omega (arith, spelled.some))
+decimal_of k (a ∷ ds) spelled =
     let (low, high) = digits_head a ds spelled.digits in
     let v = 10 * 0 + (a - zero_digit) in
     let is : digit v ≡ a = omega arith in
@@ -118,29 +111,34 @@ decimal_of (a ∷ ds) spelled =
     alone (d ∷ ds) e one = absurd (omega arith)
 
 -- so a text is a field exactly if it is spelled so
-field_spelled : (text : List ℕ) → is_field text ≡ true → Spelled text
-field_spelled text e =
-    let (low, is) = field_read text e in
-    rw is (decimal_spelled (value text) low)
+module _ (k : ℕ) (text : List ℕ) where
+  pub field_spelled : 0 < k → is_field k text ≡ true → Spelled k text
+  field_spelled some e =
+      let (low, is) = field_read k text e in
+      rw is (decimal_spelled k (value text) some low)
 
-spelled_field : (text : List ℕ) → Spelled text → is_field text ≡ true
-spelled_field text spelled =
-    (field_written text (value text) (field_low text spelled.short spelled.digits) (decimal_of text spelled)).0
+  pub spelled_field : Spelled k text → is_field k text ≡ true
+  spelled_field spelled =
+      rw (decimal_of k text spelled) (field_written k (value text) (value-bound k text spelled.short spelled.digits))
 
--- the two answers
-pub a_field : (text : List ℕ) → Spelled text → Some (value text) ≡ field_of text
-a_field text spelled = rw (spelled_field text spelled)
+  -- the two answers
+  pub a_field : Spelled k text → Some (value text) ≡ field_of k text
+  a_field spelled = rw (spelled_field spelled)
 
-pub no_field : (text : List ℕ) → (Spelled text → ⊥) → None ≡ field_of text
-no_field text n = by_cases (is_field text) (λ t. absurd (n (field_spelled text t))) (λ f. rw f)
+  pub no_field : 0 < k → (Spelled k text → ⊥) → None ≡ field_of k text
+  no_field some n = by_cases (is_field k text) (λ t. absurd (n (field_spelled some t))) (λ f. rw f)
 
--- what they say
-pub number_read : (text : List ℕ) (n : ℕ) → Some n ≡ field_of text → (is_field text ≡ true) × (n ≡ value text)
-number_read text n e =
-    by_cases (is_field text)
-    (λ t. (t, let e' : Some n ≡ Some (value text) = rw t at e in cc))
-    (λ f. let e' : Some n ≡ None = rw f at e in cc)
+  -- what they say
+  pub number_read : (n : ℕ) → field_of k text ≡ Some n → (n < 10 ^ k) × (text ≡ decimal n)
+  number_read n e =
+      by_cases
+      (is_field k text)
+      (λ t.
+      let e' : Some (value text) ≡ Some n = rw t at e in
+      let is : value text ≡ n = cc in
+      rw (← is) (field_read k text t))
+      (λ f. let e' : None ≡ Some n = rw f at e in cc)
 
-pub none_read : (text : List ℕ) → None ≡ field_of text → is_field text ≡ false
-none_read text e =
-    by_cases (is_field text) (λ t. let e' : None ≡ Some (value text) = rw t at e in cc) (λ f. f)
+-- the field of a number below 10^k
+pub number_written : (k n : ℕ) → n < 10 ^ k → field_of k (decimal n) ≡ Some n
+number_written k n h = rw (field_written k n h, decimal-value n)

@@ -1,0 +1,4 @@
+// The fields of a line in ASCII.
+#![tactic(auto)]
+
+pub mod steps;
