@@ -4,6 +4,7 @@
 
 use crate::annex_c::{AnnexC, Interleaver};
 use crate::framing::{frame_slots, FRAME_LABELS, SECTIONS};
+use crate::job_line::{Line, LAST_CODE, OF_OLD};
 use crate::segments::MOST_CUTS;
 use crate::slicer::{Slicer, MEMORY as WAITING_MEMORY};
 use crate::tables::{self, SECTION};
@@ -21,7 +22,7 @@ pub const ELEMENT: u64 = 3;
 pub const WORKSPACE: u64 = 4;
 /// The output is too short.
 pub const OUTPUT: u64 = 5;
-/// The job line is not well formed.
+/// The job line is not well formed, or of the other form in a move.
 pub const JOB_LINE: u64 = 6;
 /// The pattern is not 0, 1 or 2.
 pub const PATTERN: u64 = 7;
@@ -41,6 +42,10 @@ pub const CUT_PLACE: u64 = 13;
 pub const PILOTS: u64 = 14;
 /// The interleaver's memory is too short.
 pub const MEMORY: u64 = 15;
+/// The code number is above 262,142.
+pub const CODE: u64 = 16;
+/// The line cannot go back.
+pub const NO_WAY_BACK: u64 = 17;
 
 /// The number of the first check that does not hold.
 fn first_failed(checks: &[(u64, bool)]) -> u64 {
@@ -245,33 +250,47 @@ fn waiting(slicer: &Slicer, memory: &[u8]) -> [(u64, bool); 3] {
     ]
 }
 
-/// The bench program's job line, which asks 6, 1, 7.
+/// Reading a job line of either form.
 pub fn job(input: &[u8]) -> u64 {
-    let Some((format, pattern)) = job_fields(input) else {
+    let Some(line) = Line::read(input) else {
         return JOB_LINE;
     };
+    let job = line.job();
     first_failed(&[
-        (FORMAT, tables::format(format).is_some()),
-        (PATTERN, pattern <= 2),
+        (FORMAT, tables::format(job.format).is_some()),
+        (PATTERN, job.pattern <= 2),
+        (PILOTS, frame_slots(job.pilots).is_some()),
+        (CODE, job.code.unwrap_or(0) <= LAST_CODE),
     ])
 }
 
-/// Format, comma, pattern, line feed, end.
-fn job_fields(input: &[u8]) -> Option<(u64, u64)> {
-    let line = std::str::from_utf8(input).ok()?.strip_suffix('\n')?;
-    let (format, pattern) = line.split_once(',')?;
-    Some((job_field(format)?, job_field(pattern)?))
+/// Moving an old line to the longer form: whether it is one, what reading it asks,
+/// and room for the line that is written.
+pub fn lengthen(input: &[u8], out_len: usize) -> u64 {
+    let Some(line) = Line::read(input) else {
+        return JOB_LINE;
+    };
+    let number = job(input);
+    first_failed(&[
+        (JOB_LINE, line.added.is_none()),
+        (number, number == PASSED),
+        (OUTPUT, out_len >= line.lengthened().text().len()),
+    ])
 }
 
-/// 1 to 3 decimal digits without a leading zero; 0 itself is allowed.
-fn job_field(field: &str) -> Option<u64> {
-    let digits = field.bytes().all(|byte| byte.is_ascii_digit());
-    let leading_zero = field.len() > 1 && field.starts_with('0');
-    if digits && (1..=3).contains(&field.len()) && !leading_zero {
-        field.parse().ok()
-    } else {
-        None
-    }
+/// Moving a line of the longer form back: the same, and before the room whether it
+/// can go.
+pub fn shorten(input: &[u8], out_len: usize) -> u64 {
+    let Some(line) = Line::read(input) else {
+        return JOB_LINE;
+    };
+    let number = job(input);
+    first_failed(&[
+        (JOB_LINE, line.added.is_some()),
+        (number, number == PASSED),
+        (NO_WAY_BACK, line.added == Some(OF_OLD)),
+        (OUTPUT, out_len >= line.shortened().text().len()),
+    ])
 }
 
 #[cfg(test)]
@@ -600,29 +619,74 @@ mod tests {
     }
 
     #[test]
-    fn job_line_asks_6_1_7() {
-        assert_eq!(job(b"13,0\n"), PASSED);
-        assert_eq!(job(b"07,0\n"), JOB_LINE);
-        assert_eq!(job(b"0,9\n"), FORMAT);
-        assert_eq!(job(b"7,3\n"), PATTERN);
-        for line in [
-            "",
-            "\n",
-            "13,0",
-            "13,0\n\n",
-            "13,0\r\n",
-            "13, 0\n",
-            "13,\n",
-            ",0\n",
-            "+1,0\n",
-            "13,00\n",
-            "1000,0\n",
-            "13,0,0\n",
-            "\"13\",0\n",
+    fn job_asks_6_1_7_14_16() {
+        for (line, number) in [
+            ("13,0\n", PASSED),
+            ("07,0\n", JOB_LINE),
+            ("0,9\n", FORMAT),
+            ("38,0\n", FORMAT),
+            ("999,999\n", FORMAT),
+            ("7,3\n", PATTERN),
+            ("37,2\n", PASSED),
+            ("07,3,2,262143\n", JOB_LINE),
+            ("38,3,2,262143\n", FORMAT),
+            ("37,3,2,262143\n", PATTERN),
+            ("37,2,2,262143\n", PILOTS),
+            ("37,2,1,262143\n", CODE),
+            ("37,2,1,262142\n", PASSED),
+            ("1,0,0,-\n", PASSED),
+            ("1,0,2,-\n", PILOTS),
+            ("1,0,999,-\n", PILOTS),
+            ("1,0,1000,-\n", JOB_LINE),
+            ("1,0,0,999999\n", CODE),
+            ("1,0,0,1000000\n", JOB_LINE),
+            ("999,999,999,999999\n", FORMAT),
         ] {
-            assert_eq!(job(line.as_bytes()), JOB_LINE, "{line:?}");
+            assert_eq!(job(line.as_bytes()), number, "{line:?}");
         }
-        assert_eq!(job(b"999,999\n"), FORMAT);
-        assert_eq!(job(b"13,\xff\n"), JOB_LINE);
+    }
+
+    #[test]
+    fn lengthen_asks_6_1_7_5() {
+        for (line, room, number) in [
+            ("", 0, JOB_LINE),
+            ("13,0,0\n", 19, JOB_LINE),
+            ("13,0,0,-\n", 19, JOB_LINE),
+            ("38,3,2,262143\n", 0, JOB_LINE),
+            ("38,3\n", 0, FORMAT),
+            ("37,3\n", 0, PATTERN),
+            ("37,2\n", 0, OUTPUT),
+            ("37,2\n", 8, OUTPUT),
+            ("37,2\n", 9, PASSED),
+            ("1,0\n", 7, OUTPUT),
+            ("1,0\n", 8, PASSED),
+        ] {
+            assert_eq!(lengthen(line.as_bytes(), room), number, "{line:?}");
+        }
+    }
+
+    #[test]
+    fn shorten_asks_6_1_7_14_16_17_5() {
+        for (line, room, number) in [
+            ("", 0, JOB_LINE),
+            ("13,0,0\n", 8, JOB_LINE),
+            ("13,0\n", 8, JOB_LINE),
+            ("38,3\n", 0, JOB_LINE),
+            ("38,3,2,262143\n", 0, FORMAT),
+            ("37,3,2,262143\n", 0, PATTERN),
+            ("37,2,2,262143\n", 0, PILOTS),
+            ("37,2,1,262143\n", 0, CODE),
+            ("37,2,0,262143\n", 8, CODE),
+            ("37,2,2,-\n", 8, PILOTS),
+            ("37,2,1,262142\n", 0, NO_WAY_BACK),
+            ("37,2,1,-\n", 8, NO_WAY_BACK),
+            ("37,2,0,0\n", 8, NO_WAY_BACK),
+            ("37,2,0,-\n", 0, OUTPUT),
+            ("37,2,0,-\n", 4, OUTPUT),
+            ("37,2,0,-\n", 5, PASSED),
+            ("1,0,0,-\n", 4, PASSED),
+        ] {
+            assert_eq!(shorten(line.as_bytes(), room), number, "{line:?}");
+        }
     }
 }

@@ -19,6 +19,7 @@ pub mod digest;
 pub mod encoder;
 pub mod framing;
 pub mod galois;
+pub mod job_line;
 pub mod puncturing_search;
 pub mod segments;
 pub mod self_check;
