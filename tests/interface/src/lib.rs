@@ -128,6 +128,28 @@ pub struct LookAnswer {
     pub bits: u64,
 }
 
+/// The code number of a job that is unscrambled.
+pub const UNSCRAMBLED: u64 = u64::MAX;
+
+/// What `sccc_job` gives; an old line has pilots 0 and is unscrambled.
+#[repr(C)]
+#[derive(Clone, Copy, Debug, PartialEq, Eq)]
+pub struct JobAnswer {
+    pub number: u64,
+    pub format: u64,
+    pub pattern: u64,
+    pub pilots: u64,
+    pub code: u64,
+}
+
+/// What `sccc_job_lengthen` and `sccc_job_shorten` give.
+#[repr(C)]
+#[derive(Clone, Copy, Debug, PartialEq, Eq)]
+pub struct LineAnswer {
+    pub number: u64,
+    pub length: u64,
+}
+
 extern "C" {
     fn sccc_format(format: u64) -> FormatInfo;
     fn sccc_step(state: u64, bit: u64) -> Stepped;
@@ -213,6 +235,19 @@ extern "C" {
     ) -> BlockAnswer;
     fn sccc_slicer_change(slicer: Slicer, format: u64) -> SlicerAnswer;
     fn sccc_slicer_look(slicer: Slicer, format: u64) -> LookAnswer;
+    fn sccc_job(line: *const u8, line_len: usize) -> JobAnswer;
+    fn sccc_job_lengthen(
+        line: *const u8,
+        line_len: usize,
+        out: *mut u8,
+        out_len: usize,
+    ) -> LineAnswer;
+    fn sccc_job_shorten(
+        line: *const u8,
+        line_len: usize,
+        out: *mut u8,
+        out_len: usize,
+    ) -> LineAnswer;
 }
 
 fn pointer<T>(list: &[T]) -> *const T {
@@ -401,4 +436,19 @@ pub fn slicer_change(slicer: Slicer, format: u64) -> SlicerAnswer {
 pub fn slicer_look(slicer: Slicer, format: u64) -> LookAnswer {
     // SAFETY: it takes numbers alone.
     unsafe { sccc_slicer_look(slicer, format) }
+}
+
+pub fn job(line: &[u8]) -> JobAnswer {
+    // SAFETY: as in encode.
+    unsafe { sccc_job(pointer(line), line.len()) }
+}
+
+pub fn job_lengthen(line: &[u8], out: &mut [u8]) -> LineAnswer {
+    // SAFETY: as in encode.
+    unsafe { sccc_job_lengthen(pointer(line), line.len(), pointer_mut(out), out.len()) }
+}
+
+pub fn job_shorten(line: &[u8], out: &mut [u8]) -> LineAnswer {
+    // SAFETY: as in encode.
+    unsafe { sccc_job_shorten(pointer(line), line.len(), pointer_mut(out), out.len()) }
 }
