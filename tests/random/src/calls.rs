@@ -5,14 +5,15 @@ use crate::generator::Generator;
 use crate::lent::Lent;
 use crate::tally::Met;
 use crate::tally::Outcome::{
-    self, Block, Different, Passed, PilotsOff, PilotsOn, Refused, RefusedFor, Same, Wait,
+    self, Block, Different, Longer, Old, Passed, PilotsOff, PilotsOn, Refused, RefusedFor, Same,
+    Wait,
 };
-use crate::{encoding, shared, slicer};
+use crate::{encoding, job_line, shared, slicer};
 use interface::{Comparison, FormatInfo, Interleaved, RunAnswer, SectionRange, Stepped};
 use oracle::annex_c::{AnnexC, UpperPosition};
 use oracle::checks::{
-    self, BLOCK_WAITS, CHANNEL_LENGTH, CUT_COUNT, CUT_PLACE, ELEMENT, FORMAT, FRAME_LENGTH, LENGTH,
-    OUTPUT, PASSED, PILOTS, POSITION, WORKSPACE,
+    self, BLOCK_WAITS, CHANNEL_LENGTH, CODE, CUT_COUNT, CUT_PLACE, ELEMENT, FORMAT, FRAME_LENGTH,
+    JOB_LINE, LENGTH, NO_WAY_BACK, OUTPUT, PASSED, PATTERN, PILOTS, POSITION, WORKSPACE,
 };
 use oracle::framing::{self, FRAME_LABELS, FRAME_SLOTS, SECTIONS};
 use oracle::tables::{self, Format, SECTION};
@@ -31,7 +32,7 @@ pub struct Call {
     pub compare: fn(&mut Generator, &AnnexC) -> Compared,
 }
 
-pub const CALLS: [Call; 16] = [
+pub const CALLS: [Call; 19] = [
     Call {
         name: "format",
         outcomes: &[Passed, Refused(FORMAT)],
@@ -184,6 +185,49 @@ pub const CALLS: [Call; 16] = [
         outcomes: &[Passed, Refused(FORMAT), Refused(LENGTH)],
         weight: 2,
         compare: slicer::look_call,
+    },
+    Call {
+        name: "job",
+        outcomes: &[
+            Old,
+            Longer,
+            Refused(JOB_LINE),
+            Refused(FORMAT),
+            Refused(PATTERN),
+            Refused(PILOTS),
+            Refused(CODE),
+        ],
+        weight: 4,
+        compare: job_line::job_call,
+    },
+    Call {
+        name: "lengthen",
+        outcomes: &[
+            Passed,
+            Refused(JOB_LINE),
+            RefusedFor(JOB_LINE, "other form"),
+            Refused(FORMAT),
+            Refused(PATTERN),
+            Refused(OUTPUT),
+        ],
+        weight: 4,
+        compare: job_line::lengthen_call,
+    },
+    Call {
+        name: "shorten",
+        outcomes: &[
+            Passed,
+            Refused(JOB_LINE),
+            RefusedFor(JOB_LINE, "other form"),
+            Refused(FORMAT),
+            Refused(PATTERN),
+            Refused(PILOTS),
+            Refused(CODE),
+            Refused(NO_WAY_BACK),
+            Refused(OUTPUT),
+        ],
+        weight: 6,
+        compare: job_line::shorten_call,
     },
 ];
 

@@ -6,6 +6,7 @@ mod cases;
 mod draw;
 mod encoding;
 mod generator;
+mod job_line;
 mod lent;
 mod shared;
 mod slicer;

@@ -19,10 +19,14 @@ pub enum Outcome {
     /// A slicer was asked for a block, and has one or has to wait.
     Block,
     Wait,
+    /// A job line was read, of the old form or of the longer one.
+    Old,
+    Longer,
     /// With the number of the check that failed.
     Refused(u64),
     /// The same, and which of two lists failed it; that a frame has no room for its
-    /// pilots, and would have without; or that the entries of a memory failed it.
+    /// pilots, and would have without; that the entries of a memory failed it; or
+    /// that a line to be moved is one of the other form.
     RefusedFor(u64, &'static str),
 }
 
@@ -44,6 +48,8 @@ impl Display for Outcome {
             Outcome::Different => write!(f, "different"),
             Outcome::Block => write!(f, "block"),
             Outcome::Wait => write!(f, "wait"),
+            Outcome::Old => write!(f, "old"),
+            Outcome::Longer => write!(f, "longer"),
             Outcome::Refused(number) => write!(f, "{number}"),
             Outcome::RefusedFor(number, list) => write!(f, "{number} {list}"),
         }
