@@ -1,13 +1,15 @@
 /*
  * sccc.h: the SCCC encoder of CCSDS 131.2-O-1 and of its extension CCSDS 131.21-O-1 (SCCC-X, here
  * document 004: formats 28 to 37) for C and C++, from transfer frames to information blocks, from a
- * block to its codeword, the codeword's labels and a frame with or without pilots, and a comparison
- * of two label lists. Link build/libsccc.a or build/libsccc.so (x86-64 Linux).
+ * block to its codeword, the codeword's labels and a frame with or without pilots, a comparison of
+ * two label lists, and the job lines of a bench. Link build/libsccc.a or build/libsccc.so (x86-64
+ * Linux).
  *
  * Data      A bit is a byte, 0 or 1. A label is a byte below 2^m. A slot of a frame is a uint16_t,
  *           and so are a cut of a trellis' input and an entry of an interleaver's memory. An octet
- *           of a transfer frame is a byte. Places and positions count from 0. K, K1, I, W, N and m
- *           are those of the ACM format; K1 is K in formats 1 to 27, less in the others.
+ *           of a transfer frame is a byte, and so is a character of a job line (ASCII). Places and
+ *           positions count from 0. K, K1, I, W, N and m are those of the ACM format; K1 is K in
+ *           formats 1 to 27, less in the others.
  *
  * Answers   A call makes its checks in the order that is given with it. The number of the first
  *           one that fails is the answer, 0 if none does. Every argument has an answer: a number
@@ -42,7 +44,7 @@
 extern "C" {
 #endif
 
-/* The checks' numbers. 6 and 7 belong to the bench program's job line, and no call gives them. */
+/* The checks' numbers. */
 #define SCCC_PASSED 0           /* every check holds */
 #define SCCC_BAD_FORMAT 1       /* the format is not 1 to 37 */
 #define SCCC_BAD_LENGTH 2       /* a list is not as long as the call takes, or too many bits wait */
@@ -50,6 +52,8 @@ extern "C" {
                                    an entry of a memory not its position's */
 #define SCCC_SHORT_WORKSPACE 4  /* the workspace or a slicer's memory is too short */
 #define SCCC_SHORT_OUTPUT 5     /* the output is too short */
+#define SCCC_BAD_LINE 6         /* the job line is not well formed, or of the other form */
+#define SCCC_BAD_PATTERN 7      /* the pattern is not 0, 1 or 2 */
 #define SCCC_BAD_PLACE 8        /* the place or position is not inside */
 #define SCCC_BAD_FRAME_LENGTH 9 /* the transfer frame does not have 223 to 65,536 octets */
 #define SCCC_OTHER_LENGTH 10    /* the transfer frame is not as long as the channel's first */
@@ -58,6 +62,8 @@ extern "C" {
 #define SCCC_BAD_CUT 13         /* a cut falls below the one before it, or lies beyond the input */
 #define SCCC_BAD_PILOTS 14      /* the pilot choice is not 0 or 1 */
 #define SCCC_SHORT_MEMORY 15    /* the interleaver's memory is too short */
+#define SCCC_BAD_CODE 16        /* the code number is above 262,142 */
+#define SCCC_NO_WAY_BACK 17     /* the job line has pilots or a code number, and cannot go back */
 
 /* Sizes that all formats share, and the largest of those that they do not. */
 #define SCCC_FORMATS 37          /* the formats are 1 to 37 */
@@ -83,6 +89,12 @@ extern "C" {
 #define SCCC_LEAST_TRANSFER_FRAME 223  /* octets of a transfer frame, at least */
 #define SCCC_MOST_TRANSFER_FRAME 65536 /* and at most */
 #define SCCC_WAITING_MEMORY 600000     /* bytes of the memory in which bits wait, at least */
+
+/* The job line's sizes, and its code number. */
+#define SCCC_LONGEST_OLD_LINE 8     /* bytes of a line of the old form, at most */
+#define SCCC_LONGEST_LINE 19        /* and of the longer form */
+#define SCCC_LAST_CODE 262142       /* code numbers are 0 to 262,142 */
+#define SCCC_UNSCRAMBLED UINT64_MAX /* and this stands for none */
 
 /*
  * provisional: 1 where the interleaver has rows that stand in for published ones, else 0
@@ -152,6 +164,16 @@ typedef struct {
 typedef struct {
     uint64_t number, blocks, bits;
 } sccc_look_answer;
+
+/* code: SCCC_UNSCRAMBLED where there is no code number */
+typedef struct {
+    uint64_t number, format, pattern, pilots, code;
+} sccc_job_answer;
+
+/* length: bytes of the line that is written */
+typedef struct {
+    uint64_t number, length;
+} sccc_line_answer;
 
 /*
  * sccc_format: an ACM format's parameters (tables 4-1, 4-3; 004, tables 3-1, 4-1, 5-3).
@@ -435,6 +457,61 @@ sccc_slicer_answer sccc_slicer_change(sccc_slicer slicer, uint64_t format);
  * Refusal   number is the check's, and blocks and bits are 0.
  */
 sccc_look_answer sccc_slicer_look(sccc_slicer slicer, uint64_t format);
+
+/*
+ * sccc_job: what a job line asks for.
+ *
+ * A job line is format,pattern and a line feed, or in the longer form format,pattern,pilots,code
+ * and a line feed, and nothing else. Format, pattern and pilots are numbers of 1 to 3 decimal
+ * digits; the code is one of 1 to 6 or, where the job is unscrambled, a single -. No number begins
+ * with a 0 but 0 itself. So 13,0 and 13,0,0,- are one job.
+ *
+ * Computes  the numbers of a line of either form. A line of the old form has pilots 0 and is
+ *           unscrambled.
+ * Checks    6   line is a job line
+ *           1   the format is 1 to 37
+ *           7   the pattern is 0 for all zeros, 1 for all ones or 2 for a single one at place 0
+ *           14  pilots is 0, for none, or 1
+ *           16  the code number is at most 262,142, or the job is unscrambled
+ * Success   number is 0, and the other fields are the line's. Where the job is unscrambled, code is
+ *           SCCC_UNSCRAMBLED.
+ * Refusal   number is the check's, and every other field is 0.
+ */
+sccc_job_answer sccc_job(const uint8_t *line, size_t line_len);
+
+/*
+ * sccc_job_lengthen: a job line of the old form in the longer one.
+ *
+ * Computes  the line with the same format and pattern, pilots 0 and - for the code number.
+ * Checks    6  line is a job line of the old form
+ *           1  the format is 1 to 37
+ *           7  the pattern is 0, 1 or 2
+ *           5  out_len is at least line_len + 4, the length of the line that is written
+ * Success   number is 0, and length that length. The first length bytes of out are the line, and
+ *           the bytes after those as they were.
+ * Refusal   number is the check's, and length is 0. out is as it was.
+ */
+sccc_line_answer sccc_job_lengthen(const uint8_t *line, size_t line_len, uint8_t *out,
+                                   size_t out_len);
+
+/*
+ * sccc_job_shorten: a job line of the longer form back in the old one.
+ *
+ * Computes  the line with the same format and pattern, of a line with pilots 0 and - for the code
+ *           number. What sccc_job_lengthen has written goes back to what it was, byte for byte.
+ * Checks    6   line is a job line of the longer form
+ *           1   the format is 1 to 37
+ *           7   the pattern is 0, 1 or 2
+ *           14  pilots is 0 or 1
+ *           16  the code number is at most 262,142, or the job is unscrambled
+ *           17  pilots is 0, and the job is unscrambled
+ *           5   out_len is at least line_len - 4, the length of the line that is written
+ * Success   number is 0, and length that length. The first length bytes of out are the line, and
+ *           the bytes after those as they were.
+ * Refusal   number is the check's, and length is 0. out is as it was.
+ */
+sccc_line_answer sccc_job_shorten(const uint8_t *line, size_t line_len, uint8_t *out,
+                                  size_t out_len);
 
 #ifdef __cplusplus
 }
