@@ -8,7 +8,8 @@
 Data. A bit is a byte, 0 or 1, a label a byte below 2^m, an octet of a transfer frame a byte. They are lent as any object with
 the buffer protocol whose elements are one byte and lie in one piece: bytes, bytearray, memoryview, array.array, a numpy array of
 uint8 or bool. Nothing is copied. A call that writes takes the memory for it as out= (and work=), or allocates it, and returns a
-memoryview of what it wrote, which numpy.asarray takes as it is. Cuts are integers, in a list or anything else that yields them.
+memoryview of what it wrote, which numpy.asarray takes as it is. Cuts are integers, in a list or anything else that yields them. Job
+lines are lent as bytes are, and come back as bytes.
 
 Refusals. A call makes the checks that include/sccc.h lists with it, in that order, and raises ScccError with the number of the
 first one that fails; memory lent to it is then as it was. Numbers of any size may be given: 257 is not format 1, nor is
@@ -40,9 +41,10 @@ else:
 
 __all__ = [
     "FORMATS", "SYMBOLS", "SECTIONS", "FRAME_LABELS", "FRAME_SLOTS", "PILOT_FRAME_SLOTS", "HEADER_SLOTS", "SUBSECTION_LABELS",
-    "SUBSECTION_SLOTS", "PILOT", "SEGMENTS", "LEAST_TRANSFER_FRAME", "MOST_TRANSFER_FRAME", "WAITING_MEMORY", "MAX_I", "MEANINGS",
-    "ScccError", "FormatInfo", "Step", "Run", "SegmentStates", "Segments", "Comparison", "Look", "SharedEncoder", "Slicer", "load",
-    "format_info", "step", "run", "interleave", "encode", "encode_segments", "labels", "frame", "section", "compare",
+    "SUBSECTION_SLOTS", "PILOT", "SEGMENTS", "LEAST_TRANSFER_FRAME", "MOST_TRANSFER_FRAME", "WAITING_MEMORY", "MAX_I",
+    "LONGEST_OLD_LINE", "LONGEST_LINE", "LAST_CODE", "MEANINGS", "ScccError", "FormatInfo", "Step", "Run", "SegmentStates", "Segments",
+    "Comparison", "Look", "Job", "SharedEncoder", "Slicer", "load", "format_info", "step", "run", "interleave", "encode",
+    "encode_segments", "labels", "frame", "section", "compare", "job", "lengthen", "shorten",
 ]
 
 #: The formats are 1 to 37.
@@ -72,6 +74,11 @@ MOST_TRANSFER_FRAME = 65536
 WAITING_MEMORY = 600000
 #: The largest I: entries of an interleaver's memory that serves every format.
 MAX_I = 65520
+#: Bytes of a job line of the old form and of the longer one, at most.
+LONGEST_OLD_LINE = 8
+LONGEST_LINE = 19
+#: Code numbers are 0 to 262,142.
+LAST_CODE = 262142
 
 #: What it means that the check of a number failed.
 MEANINGS = {
@@ -80,6 +87,8 @@ MEANINGS = {
     3: "a bit is not 0 or 1, a label not below 2^m, a state not 0 to 3, or an entry of a memory not its position's",
     4: "the workspace or a slicer's memory is too short",
     5: "the output is too short",
+    6: "the job line is not well formed, or of the other form",
+    7: "the pattern is not 0, 1 or 2",
     8: "the place or position is not inside",
     9: "the transfer frame does not have 223 to 65,536 octets",
     10: "the transfer frame is not as long as the channel's first",
@@ -88,6 +97,8 @@ MEANINGS = {
     13: "a cut falls below the one before it, or lies beyond the input",
     14: "the pilot choice is not 0 or 1",
     15: "the interleaver's memory is too short",
+    16: "the code number is above 262,142",
+    17: "the job line has pilots or a code number, and cannot go back",
 }
 
 
@@ -169,6 +180,18 @@ class Look(NamedTuple):
 
     blocks: int
     bits: int
+
+
+class Job(NamedTuple):
+    """What a job line asks for. One of the old form has pilots 0 and is unscrambled."""
+
+    format: int
+    #: 0 all zeros, 1 all ones, 2 a single one at place 0
+    pattern: int
+    #: 0 for none, or 1
+    pilots: int
+    #: the code number, None where the job is unscrambled
+    code: Optional[int]
 
 
 def load(path: Union[str, "os.PathLike[str]", None] = None) -> None:
@@ -299,6 +322,32 @@ def compare(format: SupportsIndex, a: Buffer, b: Buffer) -> Comparison:
     r = _loaded().sccc_compare(_number(format), *_lent(_view("a", a), _view("b", b)))
     _pass(r.number)
     return Comparison(r.same != 0, r.count, r.first)
+
+
+def job(line: Buffer) -> Job:
+    """What a job line asks for, b"13,0\\n" or in the longer form b"13,0,0,-\\n".
+
+    Checks: 6, it is a job line; 1; 7, the pattern is 0, 1 or 2; 14, pilots is 0 or 1; 16, the code number is at most 262,142.
+    """
+    r = _loaded().sccc_job(*_lent(_view("line", line)))
+    _pass(r.number)
+    return Job(r.format, r.pattern, r.pilots, None if r.code == _UNSCRAMBLED else r.code)
+
+
+def lengthen(line: Buffer) -> bytes:
+    """A job line of the old form in the longer one, with pilots 0 and - for the code number. There is room for it, so 5 never fails.
+
+    Checks: 6, it is a job line of the old form; 1; 7.
+    """
+    return _moved(_loaded().sccc_job_lengthen, line, LONGEST_LINE)
+
+
+def shorten(line: Buffer) -> bytes:
+    """A job line of the longer form back in the old one. There is room for it, so 5 never fails.
+
+    Checks: 6, it is a job line of the longer form; 1; 7; 14; 16; 17, pilots is 0 and the job unscrambled.
+    """
+    return _moved(_loaded().sccc_job_shorten, line, LONGEST_OLD_LINE)
 
 
 class SharedEncoder:
@@ -479,6 +528,17 @@ class _LookAnswer(ctypes.Structure):
     _fields_ = [(name, ctypes.c_uint64) for name in ("number", "blocks", "bits")]
 
 
+class _JobAnswer(ctypes.Structure):
+    _fields_ = [(name, ctypes.c_uint64) for name in ("number", "format", "pattern", "pilots", "code")]
+
+
+class _LineAnswer(ctypes.Structure):
+    _fields_ = [(name, ctypes.c_uint64) for name in ("number", "length")]
+
+
+# The code number of a job that is unscrambled.
+_UNSCRAMBLED = 2**64 - 1
+
 _NUMBER = [ctypes.c_uint64]
 _SLICE = [ctypes.c_void_p, ctypes.c_size_t]
 _PROTOTYPES = {
@@ -498,6 +558,9 @@ _PROTOTYPES = {
     "sccc_slicer_block": (_BlockAnswer, [_Slicer] + _SLICE + _SLICE),
     "sccc_slicer_change": (_SlicerAnswer, [_Slicer] + _NUMBER),
     "sccc_slicer_look": (_LookAnswer, [_Slicer] + _NUMBER),
+    "sccc_job": (_JobAnswer, _SLICE),
+    "sccc_job_lengthen": (_LineAnswer, _SLICE + _SLICE),
+    "sccc_job_shorten": (_LineAnswer, _SLICE + _SLICE),
 }
 _BUILT = os.path.join(os.path.dirname(os.path.dirname(os.path.abspath(__file__))), "build", "libsccc.so")
 _library: Optional[ctypes.CDLL] = None
@@ -539,6 +602,15 @@ def _cuts(values: Iterable[SupportsIndex]) -> memoryview:
 
 def _states(states: _SegmentStates, segments: int) -> SegmentStates:
     return SegmentStates(tuple(states.ended[:segments]), tuple(states.started[:segments]))
+
+
+def _moved(move: Any, line: Buffer, longest: int) -> bytes:
+    """The line that a move writes, of so many bytes at most."""
+    given = _view("line", line)
+    result = _view("out", bytearray(longest), writable=True)
+    r = move(*_lent(given, result, written=1))
+    _pass(r.number)
+    return bytes(result[: r.length])
 
 
 _KINDS = {"B": ("B", "b", "c", "?"), "H": ("H",)}

@@ -12,7 +12,7 @@ import tempfile
 import unittest
 from array import array
 from concurrent.futures import ThreadPoolExecutor
-from itertools import islice
+from itertools import islice, product
 
 import numpy
 
@@ -820,6 +820,115 @@ class Slicers(Case):
         self.assertTrue(numpy.shares_memory(numpy.asarray(slicer.block(out=out)), out))
 
 
+class JobLines(Case):
+    def line(self, *fields):
+        return ",".join(map(str, fields)).encode() + b"\n"
+
+    def numbers(self):
+        """Formats and patterns."""
+        return product(range(1, sccc.FORMATS + 1), range(3))
+
+    def test_job(self):
+        for f, pattern in self.numbers():
+            self.assertEqual(sccc.job(self.line(f, pattern)), (f, pattern, 0, None))
+            for pilots in (0, 1):
+                self.assertEqual(sccc.job(self.line(f, pattern, pilots, "-")), (f, pattern, pilots, None))
+                for code in (0, 1, 9, 10, 99999, 100000, 262141, sccc.LAST_CODE):
+                    self.assertEqual(sccc.job(self.line(f, pattern, pilots, code)), (f, pattern, pilots, code))
+        job = sccc.job(b"13,2,1,262142\n")
+        self.assertEqual((type(job), job.format, job.pattern, job.pilots, job.code), (sccc.Job, 13, 2, 1, 262142))
+        self.assertIsNone(sccc.job(b"13,2\n").code)
+
+    def test_there_and_back(self):
+        """Byte for byte. A line that has the form already does not move, nor goes one back that says more."""
+        for f, pattern in self.numbers():
+            old, longer = self.line(f, pattern), self.line(f, pattern, 0, "-")
+            self.assertEqual(sccc.lengthen(old), longer)
+            self.assertEqual(sccc.shorten(longer), old)
+            self.assertRefused(6, sccc.lengthen, longer)
+            self.assertRefused(6, sccc.shorten, old)
+            for pilots, code in ((0, 0), (0, 262142), (1, "-"), (1, 0)):
+                self.assertRefused(6, sccc.lengthen, self.line(f, pattern, pilots, code))
+                self.assertRefused(17, sccc.shorten, self.line(f, pattern, pilots, code))
+        self.assertEqual((type(sccc.lengthen(b"13,0\n")), type(sccc.shorten(b"13,0,0,-\n"))), (bytes, bytes))
+
+    def test_refused_numbers(self):
+        for number, place, numbers in (
+            (1, 0, (0, 38, 99, 100, 256, 257, 999)),
+            (7, 1, (3, 4, 10, 255, 256, 999)),
+            (14, 2, (2, 3, 10, 256, 257, 999)),
+            (16, 3, (262143, 262144, 300000, 999999)),
+        ):
+            for n in numbers:
+                fields = [13, 0, 0, "-"]
+                fields[place] = n
+                self.assertRefused(number, sccc.job, self.line(*fields))
+                self.assertRefused(number, sccc.shorten, self.line(*fields))
+                if place < 2:
+                    self.assertRefused(number, sccc.job, self.line(*fields[:2]))
+                    self.assertRefused(number, sccc.lengthen, self.line(*fields[:2]))
+
+    def test_the_first_check_that_fails(self):
+        """What comes after it fails too."""
+        for number, line in (
+            (6, b"038,3,2,262143\n"),
+            (1, b"38,3,2,262143\n"),
+            (1, b"999,999,999,999999\n"),
+            (7, b"37,3,2,262143\n"),
+            (14, b"37,2,2,262143\n"),
+            (16, b"37,2,1,262143\n"),
+        ):
+            self.assertRefused(number, sccc.job, line)
+            self.assertRefused(number, sccc.shorten, line)
+            self.assertRefused(6, sccc.lengthen, line)
+        self.assertRefused(17, sccc.shorten, b"37,2,1,262142\n")
+        for number, line in ((6, b"038,3\n"), (1, b"38,3\n"), (1, b"0,9\n"), (1, b"999,999\n"), (7, b"37,3\n")):
+            self.assertRefused(number, sccc.job, line)
+            self.assertRefused(number, sccc.lengthen, line)
+            self.assertRefused(6, sccc.shorten, line)
+
+    def assertNoLine(self, text):
+        for call in (sccc.job, sccc.lengthen, sccc.shorten):
+            self.assertRefused(6, call, text)
+
+    def test_no_lines(self):
+        for text in (
+            *("", "\n", "13\n", "13,\n", ",0\n", "13,0\n\n", "13,0\r\n", " 13,0\n", "13, 0\n", "+13,0\n", "13,-\n", "13;0\n"),
+            *("07,0\n", "00,0\n", "13,00\n", "1000,0\n", "13,1000\n", "13,0,0\n", "13,0,-\n", "13,0,,-\n", "13,0,0,\n", ",,,\n"),
+            *("13,0,0,-\n\n", "13,0,0,-\r\n", "13,0,0,-,\n", "13,0,0,-,0\n", "13,0,0,0,0\n", "13,0,0,--\n", "13,0,0,-0\n"),
+            *("13,0,0,0-\n", "13,0,0, -\n", "13,0,-,-\n", "13,-,0,-\n", "-,0,0,-\n", "13,0,00,-\n", "13,0,0,00\n", "13,0,0,01\n"),
+            *("013,0,0,-\n", "13,0,1000,-\n", "13,0,0,1000000\n", "999,999,999,9999999\n", "13,0\n13,0\n", "13,0\n" * 10000),
+        ):
+            self.assertNoLine(text.encode())
+        for line in (b"13,0\n", b"13,0,0,-\n", b"37,2,1,262142\n"):
+            for length in range(len(line)):
+                self.assertNoLine(memoryview(line)[:length])
+            for byte in range(256):
+                self.assertNoLine(line + bytes([byte]))
+                if byte not in b"0123456789,-\n":
+                    for place in range(len(line)):
+                        self.assertNoLine(line[:place] + bytes([byte]) + line[place + 1 :])
+
+    def test_longest_lines(self):
+        self.assertEqual((len(b"999,999\n"), len(b"999,999,999,999999\n")), (sccc.LONGEST_OLD_LINE, sccc.LONGEST_LINE))
+
+    def test_memory(self):
+        for line in (
+            bytearray(b"13,2\n"),
+            memoryview(b"+13,2\n\n")[1:-1],
+            array("b", b"13,2\n"),
+            numpy.frombuffer(b"13,2\n", dtype=numpy.uint8),
+        ):
+            before = bytes(line)
+            self.assertEqual(sccc.job(line), (13, 2, 0, None))
+            self.assertEqual(sccc.lengthen(line), b"13,2,0,-\n")
+            self.assertEqual(bytes(line), before)
+        self.assertEqual(sccc.shorten(bytearray(b"13,2,0,-\n")), b"13,2\n")
+        for call in (sccc.job, sccc.lengthen, sccc.shorten):
+            for line in ("13,2\n", [13, 2], None, 13, array("H", [13, 2]), memoryview(b"1133,,22\n\n")[::2]):
+                self.assertRaises(TypeError, call, line)
+
+
 class Memory(Case):
     block = seeded(5, 5758)
 
@@ -906,7 +1015,8 @@ class Library(Case):
         for name in names:
             self.assertEqual(getattr(sccc, name), int(defined[name]), name)
         self.assertIn("MAX_I", names)
-        for name in ("BAD_PILOTS", "SHORT_MEMORY"):
+        self.assertIn("LAST_CODE", names)
+        for name in ("BAD_LINE", "BAD_PATTERN", "BAD_PILOTS", "SHORT_MEMORY", "BAD_CODE", "NO_WAY_BACK"):
             self.assertIn(int(defined[name]), sccc.MEANINGS)
 
     def elsewhere(self, code, **environment):
