@@ -1489,6 +1489,269 @@ static void slicer_changes(void)
     }
 }
 
+/* A job line's text, or one that is none, and what a move writes. */
+static uint8_t text[256 + SPARE];
+static uint8_t moved[SCCC_LONGEST_LINE + SPARE];
+
+static void put_text(const char *bytes, size_t length)
+{
+    fill(text, sizeof text);
+    memcpy(text, bytes, length);
+}
+
+static int text_unchanged(const char *bytes, size_t length)
+{
+    return memcmp(text, bytes, length) == 0 && as_filled(text, length, sizeof text);
+}
+
+/* What a text asks for: the answer, and that the text is left. */
+static void job_gives(int line, uint64_t number, const char *bytes, size_t length, uint64_t f,
+                      uint64_t pattern, uint64_t pilots, uint64_t code)
+{
+    sccc_job_answer r;
+    put_text(bytes, length);
+    r = sccc_job(lent(text, length), length);
+    check(line, r.number == number, "the number of sccc_job");
+    check(line, r.format == f && r.pattern == pattern, "format and pattern");
+    check(line, r.pilots == pilots && r.code == code, "pilots and code number");
+    check(line, text_unchanged(bytes, length), "the line is unchanged");
+}
+
+#define JOB(bytes, f, pattern, pilots, code)                                                       \
+    job_gives(__LINE__, SCCC_PASSED, bytes, strlen(bytes), f, pattern, pilots, code)
+#define JOB_REFUSED(number, bytes) job_gives(__LINE__, number, bytes, strlen(bytes), 0, 0, 0, 0)
+
+typedef sccc_line_answer move(const uint8_t *line, size_t line_len, uint8_t *out, size_t out_len);
+
+/* A move of a text to filled memory, of which so much is lent: its answer, and every byte that it
+ * leaves. */
+static void move_gives(int line, uint64_t number, move *call, const char *bytes, size_t length,
+                       size_t out_len, const char *due)
+{
+    const size_t written = strlen(due);
+    sccc_line_answer r;
+    put_text(bytes, length);
+    fill(moved, sizeof moved);
+    r = call(lent(text, length), length, lent_out(moved, out_len), out_len);
+    check(line, r.number == number, "the number of a move");
+    check(line, r.length == written, "the length of the line that is written");
+    check(line, memcmp(moved, due, written) == 0, "the line that is written");
+    check(line, as_filled(moved, written, sizeof moved), "out is unchanged where nothing is due");
+    check(line, text_unchanged(bytes, length), "the line that is read is unchanged");
+}
+
+/* A line that moves: with every room that is too short, with just enough and with more. */
+static void moves(int line, move *call, const char *bytes, const char *due)
+{
+    const size_t length = strlen(bytes), enough = strlen(due);
+    size_t room;
+    for (room = 0; room < enough; room++)
+        move_gives(line, SCCC_SHORT_OUTPUT, call, bytes, length, room, "");
+    for (; room <= sizeof moved; room++)
+        move_gives(line, SCCC_PASSED, call, bytes, length, room, due);
+}
+
+/* One that does not, with room and without. */
+static void moves_not(int line, uint64_t number, move *call, const char *bytes, size_t length)
+{
+    move_gives(line, number, call, bytes, length, sizeof moved, "");
+    move_gives(line, number, call, bytes, length, 0, "");
+}
+
+#define MOVES(call, bytes, due) moves(__LINE__, call, bytes, due)
+#define MOVES_NOT(number, call, bytes) moves_not(__LINE__, number, call, bytes, strlen(bytes))
+
+/* Of three digits, or of six. */
+static const unsigned bad_formats[] = {0, 38, 99, 100, 256, 257, 293, 999};
+static const unsigned bad_patterns[] = {3, 4, 10, 255, 256, 258, 999};
+static const unsigned bad_pilots[] = {2, 3, 10, 255, 256, 257, 999};
+static const unsigned bad_codes[] = {262143, 262144, 300000, 524288, 999999};
+
+static const char *old_line(unsigned f, unsigned pattern)
+{
+    static char bytes[32];
+    snprintf(bytes, sizeof bytes, "%u,%u\n", f, pattern);
+    return bytes;
+}
+
+static const char *longer_line(unsigned f, unsigned pattern, unsigned pilots, const char *code)
+{
+    static char bytes[32];
+    snprintf(bytes, sizeof bytes, "%u,%u,%u,%s\n", f, pattern, pilots, code);
+    return bytes;
+}
+
+static const char *decimal(unsigned number)
+{
+    static char bytes[16];
+    snprintf(bytes, sizeof bytes, "%u", number);
+    return bytes;
+}
+
+static void job_lines(void)
+{
+    static const unsigned codes[] = {0, 1, 9, 10, 99999, 100000, 262141, SCCC_LAST_CODE};
+    unsigned f, pattern, pilots;
+    size_t j;
+    CHECK(sizeof(sccc_job_answer) == 5 * sizeof(uint64_t));
+    CHECK(SCCC_LAST_CODE == 262142 && SCCC_UNSCRAMBLED == UINT64_MAX);
+    for (f = 1; f <= SCCC_FORMATS; f++)
+        for (pattern = 0; pattern < 3; pattern++) {
+            JOB(old_line(f, pattern), f, pattern, 0, SCCC_UNSCRAMBLED);
+            for (pilots = 0; pilots < 2; pilots++) {
+                JOB(longer_line(f, pattern, pilots, "-"), f, pattern, pilots, SCCC_UNSCRAMBLED);
+                for (j = 0; j < LENGTH(codes); j++)
+                    JOB(longer_line(f, pattern, pilots, decimal(codes[j])), f, pattern, pilots,
+                        codes[j]);
+            }
+        }
+    for (j = 0; j < LENGTH(bad_formats); j++) {
+        JOB_REFUSED(SCCC_BAD_FORMAT, old_line(bad_formats[j], 0));
+        JOB_REFUSED(SCCC_BAD_FORMAT, longer_line(bad_formats[j], 0, 1, "0"));
+    }
+    for (j = 0; j < LENGTH(bad_patterns); j++) {
+        JOB_REFUSED(SCCC_BAD_PATTERN, old_line(13, bad_patterns[j]));
+        JOB_REFUSED(SCCC_BAD_PATTERN, longer_line(13, bad_patterns[j], 1, "0"));
+    }
+    for (j = 0; j < LENGTH(bad_pilots); j++) {
+        JOB_REFUSED(SCCC_BAD_PILOTS, longer_line(13, 0, bad_pilots[j], "-"));
+        JOB_REFUSED(SCCC_BAD_PILOTS, longer_line(13, 0, bad_pilots[j], "0"));
+    }
+    for (j = 0; j < LENGTH(bad_codes); j++)
+        JOB_REFUSED(SCCC_BAD_CODE, longer_line(13, 0, 1, decimal(bad_codes[j])));
+    /* everything behind the check fails too */
+    JOB_REFUSED(SCCC_BAD_FORMAT, "0,9\n");
+    JOB_REFUSED(SCCC_BAD_FORMAT, "999,999\n");
+    JOB_REFUSED(SCCC_BAD_LINE, "038,3,2,262143\n");
+    JOB_REFUSED(SCCC_BAD_FORMAT, "38,3,2,262143\n");
+    JOB_REFUSED(SCCC_BAD_PATTERN, "37,3,2,262143\n");
+    JOB_REFUSED(SCCC_BAD_PILOTS, "37,2,2,262143\n");
+    JOB_REFUSED(SCCC_BAD_CODE, "37,2,1,262143\n");
+}
+
+/* Each format: there, and back byte for byte; and no line moves that has the form already. */
+static void moves_of_format(unsigned f)
+{
+    static const char *const codes[] = {"-", "0", "1", "262142"};
+    char old[32], longer[32];
+    unsigned pattern, pilots;
+    size_t j;
+    for (pattern = 0; pattern < 3; pattern++) {
+        strcpy(old, old_line(f, pattern));
+        strcpy(longer, longer_line(f, pattern, 0, "-"));
+        MOVES(sccc_job_lengthen, old, longer);
+        MOVES(sccc_job_shorten, longer, old);
+        MOVES_NOT(SCCC_BAD_LINE, sccc_job_shorten, old);
+        for (pilots = 0; pilots < 2; pilots++)
+            for (j = 0; j < LENGTH(codes); j++) {
+                const char *set = longer_line(f, pattern, pilots, codes[j]);
+                MOVES_NOT(SCCC_BAD_LINE, sccc_job_lengthen, set);
+                if (pilots > 0 || j > 0)
+                    MOVES_NOT(SCCC_NO_WAY_BACK, sccc_job_shorten, set);
+            }
+    }
+}
+
+static void line_moves(void)
+{
+    unsigned f;
+    size_t j;
+    CHECK(sizeof(sccc_line_answer) == 2 * sizeof(uint64_t));
+    for (f = 1; f <= SCCC_FORMATS; f++)
+        moves_of_format(f);
+    for (j = 0; j < LENGTH(bad_formats); j++) {
+        MOVES_NOT(SCCC_BAD_FORMAT, sccc_job_lengthen, old_line(bad_formats[j], 0));
+        MOVES_NOT(SCCC_BAD_FORMAT, sccc_job_shorten, longer_line(bad_formats[j], 0, 0, "-"));
+    }
+    for (j = 0; j < LENGTH(bad_patterns); j++) {
+        MOVES_NOT(SCCC_BAD_PATTERN, sccc_job_lengthen, old_line(13, bad_patterns[j]));
+        MOVES_NOT(SCCC_BAD_PATTERN, sccc_job_shorten, longer_line(13, bad_patterns[j], 0, "-"));
+    }
+    for (j = 0; j < LENGTH(bad_pilots); j++)
+        MOVES_NOT(SCCC_BAD_PILOTS, sccc_job_shorten, longer_line(13, 0, bad_pilots[j], "-"));
+    for (j = 0; j < LENGTH(bad_codes); j++)
+        MOVES_NOT(SCCC_BAD_CODE, sccc_job_shorten, longer_line(13, 0, 0, decimal(bad_codes[j])));
+    /* everything behind the check fails too */
+    MOVES_NOT(SCCC_BAD_FORMAT, sccc_job_lengthen, "38,3\n");
+    MOVES_NOT(SCCC_BAD_LINE, sccc_job_lengthen, "38,3,2,262143\n");
+    MOVES_NOT(SCCC_BAD_LINE, sccc_job_shorten, "38,3\n");
+    MOVES_NOT(SCCC_BAD_FORMAT, sccc_job_shorten, "38,3,2,262143\n");
+    MOVES_NOT(SCCC_BAD_PATTERN, sccc_job_shorten, "37,3,2,262143\n");
+    MOVES_NOT(SCCC_BAD_PILOTS, sccc_job_shorten, "37,2,2,262143\n");
+    MOVES_NOT(SCCC_BAD_CODE, sccc_job_shorten, "37,2,1,262143\n");
+    MOVES_NOT(SCCC_NO_WAY_BACK, sccc_job_shorten, "37,2,1,262142\n");
+    MOVES_NOT(SCCC_BAD_FORMAT, sccc_job_lengthen, "999,999\n");
+    MOVES_NOT(SCCC_BAD_FORMAT, sccc_job_shorten, "999,999,999,999999\n");
+}
+
+/* A text that is no line of either form, for all three calls. */
+static void no_line(int line, const char *bytes, size_t length)
+{
+    job_gives(line, SCCC_BAD_LINE, bytes, length, 0, 0, 0, 0);
+    moves_not(line, SCCC_BAD_LINE, sccc_job_lengthen, bytes, length);
+    moves_not(line, SCCC_BAD_LINE, sccc_job_shorten, bytes, length);
+}
+
+#define NO_LINE(bytes, length) no_line(__LINE__, bytes, length)
+
+/* A line's front, lent with what is missing behind it; a byte that no line has, at any place of the
+ * line; and any byte behind it. */
+static void spoilt_line(const char *bytes)
+{
+    static const char of_lines[] = "0123456789,-\n";
+    const size_t whole = strlen(bytes);
+    char spoilt[32];
+    size_t n;
+    int byte;
+    put_text(bytes, whole);
+    for (n = 0; n < whole; n++) {
+        CHECK(sccc_job(lent(text, n), n).number == SCCC_BAD_LINE);
+        CHECK(sccc_job_lengthen(lent(text, n), n, moved, sizeof moved).number == SCCC_BAD_LINE);
+        CHECK(sccc_job_shorten(lent(text, n), n, moved, sizeof moved).number == SCCC_BAD_LINE);
+    }
+    for (byte = 0; byte < 256; byte++) {
+        for (n = 0; n < whole && memchr(of_lines, byte, sizeof of_lines - 1) == NULL; n++) {
+            memcpy(spoilt, bytes, whole);
+            spoilt[n] = (char)byte;
+            NO_LINE(spoilt, whole);
+        }
+        memcpy(spoilt, bytes, whole);
+        spoilt[whole] = (char)byte;
+        NO_LINE(spoilt, whole + 1);
+    }
+}
+
+static void no_lines(void)
+{
+    static const char *const texts[] = {
+        "", "\n", "13\n", "13,\n", ",0\n", ",\n", "-\n", "13,0", "13,0\n\n", "\n13,0\n", "13,0\r\n",
+        "13,0\n13,0\n", "13\n,0\n", " 13,0\n", "13, 0\n", "13,0 \n", "13;0\n", "13,,0\n", "13,0,\n",
+        "+13,0\n", "-13,0\n", "13,-0\n", "13,-\n", "13.0\n", "0x1,0\n", "\"13\",0\n", "13,/\n",
+        "13,:\n", "07,0\n", "00,0\n", "013,0\n", "13,00\n", "13,02\n", "1000,0\n", "1,1000\n",
+        "13,0,0\n", "13,0,-\n", "13,0,0,\n", "13,0,,-\n", "13,,0,-\n", ",0,0,-\n", ",,,\n",
+        "13,0,0,-", "13,0,0,-\n\n", "13,0,0,-\r\n", "13,0,0,-\n13,0,0,-\n", "13,0,0,-,\n",
+        "13,0,0,-,0\n", "13,0,0,0,0\n", "13,0,0, -\n", "13,0,0,- \n", "13,0,0,--\n", "13,0,0,-0\n",
+        "13,0,0,0-\n", "13,0,0,-1\n", "13,0,0,+1\n", "13,0,-,-\n", "13,-,0,-\n", "-,0,0,-\n",
+        "13,0,00,-\n", "13,0,01,-\n", "13,00,0,-\n", "013,0,0,-\n", "13,0,0,00\n", "13,0,0,01\n",
+        "13,0,0,000000\n", "13,0,0,012345\n", "13,0,1000,-\n", "13,1000,0,-\n", "1000,0,0,-\n",
+        "13,0,0,1000000\n", "13,0,0,9999999\n", "999,999,999,9999999\n", "999,999,9999,999999\n",
+        "13,0,0,18446744073709551616\n", "13,0,18446744073709551617,-\n", "4294967309,0\n",
+    };
+    char many[200];
+    size_t j;
+    CHECK(strlen("999,999\n") == SCCC_LONGEST_OLD_LINE);
+    CHECK(strlen("999,999,999,999999\n") == SCCC_LONGEST_LINE);
+    for (j = 0; j < LENGTH(texts); j++)
+        NO_LINE(texts[j], strlen(texts[j]));
+    for (j = 0; j < sizeof many; j++)
+        many[j] = "13,0\n"[j % 5];
+    for (j = 10; j <= sizeof many; j++)
+        NO_LINE(many, j);
+    spoilt_line("13,0\n");
+    spoilt_line("37,2,1,262142\n");
+    spoilt_line("999,999,999,999999\n");
+}
+
 /* A thread's own buffers: it encodes one block of its format a few times over. */
 typedef struct {
     uint64_t f;
@@ -1534,6 +1797,7 @@ static void threads(void)
 static void *call_each(void *argument)
 {
     static const uint16_t cuts[SCCC_SEGMENTS - 1] = {0};
+    static const uint8_t old[] = "13,0\n", longer[] = "13,0,0,-\n";
     job *j = argument;
     sccc_format_info r = sccc_format(j->f);
     sccc_slicer s;
@@ -1555,6 +1819,9 @@ static void *call_each(void *argument)
     sccc_slicer_block(s, waiting, sizeof waiting, j->block, r.k);
     sccc_slicer_look(s, j->f);
     sccc_slicer_change(s, j->f);
+    sccc_job(longer, sizeof longer - 1);
+    sccc_job_lengthen(old, sizeof old - 1, moved, sizeof moved);
+    sccc_job_shorten(longer, sizeof longer - 1, moved, sizeof moved);
     return NULL;
 }
 
@@ -1613,6 +1880,9 @@ int main(void)
         {"sccc_slicer_change and sccc_slicer_look", slicer_change},
         {"slicers' runs", slicer_run},
         {"slicers' changes of format", slicer_changes},
+        {"sccc_job", job_lines},
+        {"sccc_job_lengthen and sccc_job_shorten", line_moves},
+        {"texts that are no job line", no_lines},
         {"threads", threads},
         {"stack", stack},
     };
