@@ -11,7 +11,7 @@ use interface::{JobAnswer, LineAnswer, UNSCRAMBLED};
 use oracle::annex_c::AnnexC;
 use oracle::checks::{CODE, FORMAT, JOB_LINE, NO_WAY_BACK, OUTPUT, PASSED, PATTERN, PILOTS};
 use oracle::job_line::{self, Added, Line, Moved, Read, LAST_CODE};
-use oracle::tables::Format;
+use oracle::tables::{self, Format};
 
 /// The checks of a line that is read, in order, by its form.
 const OLD_CHECKS: &[u64] = &[JOB_LINE, FORMAT, PATTERN];
@@ -22,9 +22,10 @@ const LARGEST: u64 = 999;
 const LARGEST_CODE: u64 = 999_999;
 
 /// Fields that no line has, or not in every place.
-const OTHER_FIELDS: [&[u8]; 10] = [
-    b"", b"-", b"--", b"-0", b"+1", b" 1", b"00", b"01", b"1000", b"1000000",
-];
+const OTHER_FIELDS: [&[u8]; 7] = [b"", b"-", b"--", b"00", b"01", b"1000", b"1000000"];
+
+/// Bytes that a line has, and neighbours of theirs.
+const BYTES: &[u8] = b"019,-./: \n\r";
 
 pub fn job_call(generator: &mut Generator, _: &AnnexC) -> Compared {
     // Of three lines two are of the longer form, which can fail more.
@@ -56,7 +57,9 @@ pub fn lengthen_call(generator: &mut Generator, _: &AnnexC) -> Compared {
     let plan = Plan::new(generator, &[JOB_LINE, FORMAT, PATTERN, OUTPUT]);
     let f = draw::format(generator);
     let line = old_line(generator, &plan, &f);
-    let [fails, set] = [(); 2].map(|()| [generator.coin(), generator.coin()]);
+    let bad = generator.coin();
+    let fails = draw::either(generator, bad);
+    let set = [generator.coin(), generator.coin()];
     let other = Line {
         added: Some(added(generator, fails, set)),
         ..line
@@ -172,7 +175,7 @@ fn old_line(generator: &mut Generator, plan: &Plan, f: &Format) -> Line {
         added: None,
     };
     if plan.fails(generator, FORMAT) {
-        let above = above(generator, 37, LARGEST);
+        let above = above(generator, tables::formats().len() as u64, LARGEST);
         line.format = generator.pick(&[0, above, above, above]);
     }
     if plan.fails(generator, PATTERN) {
@@ -217,7 +220,8 @@ fn text(generator: &mut Generator, line: &Line, other: &Line, fails: bool) -> Ve
     text
 }
 
-/// Makes a text that is a line one that is none: anything, or with changes.
+/// Makes a text that is a line one that is none: anything, or the line with as many
+/// changes as that takes.
 fn spoil(generator: &mut Generator, text: &mut Vec<u8>) {
     if generator.below(8) == 0 {
         let length = generator.below(24);
@@ -232,9 +236,10 @@ fn spoil(generator: &mut Generator, text: &mut Vec<u8>) {
 /// it; a field is another; or the end comes sooner or later.
 fn change(generator: &mut Generator, text: &mut Vec<u8>) {
     let any = generator.below(256) as u8;
-    let byte = generator.pick(&[b'0', b'1', b',', b'-', b'\n', b' ', any, any]);
+    let likely = generator.pick(BYTES);
+    let byte = generator.pick(&[any, likely, likely]);
     let at = generator.below(text.len());
-    match generator.below(10) {
+    match generator.below(12) {
         0 => text[at] = byte,
         1 => {
             text.remove(at);
@@ -292,7 +297,7 @@ mod tests {
     fn spoilt_texts_are_no_lines() {
         let mut generator = Generator::of_case(1, 1);
         for line in [&b"13,0\n"[..], b"13,0,0,-\n", b"999,999,999,999999\n"] {
-            let texts = (0..300).map(|_| {
+            let texts = (0..2000).map(|_| {
                 let mut text = line.to_vec();
                 spoil(&mut generator, &mut text);
                 text
