@@ -1,6 +1,6 @@
 -- The structs of the C interface: what the layer below answers, field by field. A refusal there has its number and 0 in every other field, and
 -- so has it here.
-use Rattle.std.specs.Prelude.{List, ℕ, ◌*◌, eqb, if◌then◌else◌}
+use Rattle.std.specs.Prelude.{List, ℕ, ◌-◌, ◌*◌, ◌^◌, eqb, if◌then◌else◌, Option, Some, None}
 use Rattle.bits.specs.Checks.{passed}
 use Rattle.acm.specs.Formats as acm
 use Rattle.trellis.specs.Run.{Ran}
@@ -15,12 +15,16 @@ use Rattle.sharing.specs.Calls.{Shared}
 use Rattle.slicer.specs.Calls as slicer
 use Rattle.slicer.specs.Change.{LookAnswer as Look}
 use Rattle.slicer.specs.declared.Slicer as below
+use Rattle.job_line.specs.Job as job
+use Rattle.job_moves.specs.Moves.{Moved}
 use Rattle.sccc.specs.declared.FormatInfo.{FormatInfo}
 use Rattle.sccc.specs.declared.Stepped.{Stepped}
 use Rattle.sccc.specs.declared.Interleaved.{Interleaved}
 use Rattle.sccc.specs.declared.SectionRange.{SectionRange}
 use Rattle.sccc.specs.declared.Comparison.{Comparison}
 use Rattle.sccc.specs.declared.channels.SharedAnswer.{SharedAnswer}
+use Rattle.sccc.specs.declared.lines.JobAnswer.{JobAnswer}
+use Rattle.sccc.specs.declared.lines.LineAnswer.{LineAnswer}
 use Rattle.sccc.specs.declared.machine.SegmentStates.{SegmentStates}
 use Rattle.sccc.specs.declared.machine.SegmentsAnswer.{SegmentsAnswer}
 use Rattle.sccc.specs.declared.run.RunAnswer.{RunAnswer}
@@ -91,3 +95,24 @@ block_struct a = record { number = a.number; wait = if a.wait then 1 else 0; sli
 
 abbrev pub look_struct : Look → LookAnswer
 look_struct a = record { number = a.number; blocks = a.blocks; bits = a.bits }
+
+-- a code number where there is one, and else the largest number of 64 bits
+abbrev pub unscrambled : ℕ
+unscrambled = 2 ^ 64 - 1
+
+abbrev pub code_word : Option ℕ → ℕ
+code_word (Some code) = code
+code_word None = unscrambled
+
+abbrev pub job_struct : job.Answer → JobAnswer
+job_struct a =
+    record {
+      number = a.number;
+      format = a.format;
+      pattern = a.pattern;
+      pilots = a.pilots;
+      code = if eqb a.number passed then code_word a.code else 0;
+    }
+
+abbrev pub line_struct : Moved → LineAnswer
+line_struct m = record { number = m.number; length = m.length }
