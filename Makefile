@@ -1,5 +1,5 @@
 # make            prove every crate, build the programs and run them
-# make bench      prove, build and run bench, and prove no more than it is made of
+# make bench      prove, build and run bench, lengthen and shorten, and prove no more than they are made of
 # make test       the gate: `rt ci`, with the must-fail edits, then every test of what rt builds, and each wrong program by itself
 # make tests      the tests alone, on bench and the library
 # make refusals   each wrong program of the must-fail edits by itself, alone
@@ -27,9 +27,10 @@ all:
 	@tools/packages rt
 	rt all test
 
+# the programs that take a job line
 bench:
 	@tools/packages rt
-	cd crates/bench && rt run < stdin
+	for program in bench lengthen shorten; do (cd crates/$$program && rt run < stdin) || exit 1; done
 
 # What is lacking is found before anything is proved.
 test: packages

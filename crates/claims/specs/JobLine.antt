@@ -4,11 +4,14 @@ use Rattle.bits.specs.Checks.{passed}
 use Rattle.ascii.specs.Text.{ascii}
 use Rattle.job_line.specs.declared.steps.Added.{Added}
 use Rattle.job_line.specs.declared.steps.Line.{Line}
-use Rattle.job_line.specs.Line.{longest_old, longest_line, text_of, fits, is_old, is_longer}
+use Rattle.job_line.specs.Line.{OldLine, LongerLine, longest_old, longest_line, text_of, fits, is_old, is_longer}
 use Rattle.job_line.specs.Job.{said_number, job_number, asked}
 use Rattle.job_moves.specs.Moves.{plain, lengthened, shortened, old_number, lengthen, shorten}
 
--- no text is a line of both forms
+-- a text is a line of a form exactly if it is the text of a line's numbers, and no text is one of both
+abbrev pub Lines : Type 0
+Lines = (text : List ℕ) → ((is_old text ≡ true) ↔ OldLine text) × ((is_longer text ≡ true) ↔ LongerLine text)
+
 abbrev pub Apart : Type 0
 Apart = (text : List ℕ) → is_old text ≡ true → is_longer text ≡ false
 
@@ -56,6 +59,7 @@ Some =
     × ((shorten (ascii "13,0,0,-\n") 5).number ≡ passed)
 
 pub record JobLine : Type 0 where
+  pub lines : Lines
   pub apart : Apart
   pub back : Back
   pub there : There

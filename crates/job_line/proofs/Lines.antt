@@ -22,7 +22,7 @@ use Rattle.fields.proofs.Digits.{decimal-value}
 use Rattle.fields.proofs.Numbers.{decimal_spelled}
 use Rattle.job_line.specs.declared.steps.Added.{Added}
 use Rattle.job_line.specs.declared.steps.Line.{Line}
-use Rattle.job_line.specs.Line.{WellFormed, field_digits, code_digits, longest_old, longest_line, code_text, added_text, text_of, field_fits, code_fits, added_fits, fits, code_in, added_in, old_in, longer_in, is_text_of, is_old, is_longer, is_line, said, line_of}
+use Rattle.job_line.specs.Line.{OldLine, LongerLine, old_line, longer_line, field_digits, code_digits, longest_old, longest_line, code_text, added_text, text_of, field_fits, code_fits, added_fits, fits, code_in, added_in, old_in, longer_in, is_text_of, is_old, is_longer, is_line, said, line_of}
 use Rattle.job_line.specs.Reader.{line_read}
 use Rattle.job_line.proofs.Reader.{line_written, line_is, low_of, number_without, code_without, no_dash}
 
@@ -33,9 +33,6 @@ module _ (text : List ℕ) (l : Line) (e : is_text_of text l ≡ true) where
 
   written : text ≡ text_of l
   written = same-equal text (text_of l) (right_true (fits l) (same text (text_of l)) e)
-
-  well-formed : WellFormed text
-  well-formed = record { line = l; low = low; written = written }
 
   read_there : line_read text ≡ Some l
   read_there = ap line_read written ∙ line_written l low
@@ -50,7 +47,7 @@ before_comma f rest = before_at comma (decimal f) rest (number_without comma ref
 behind-comma : (f : ℕ) (rest : List ℕ) → behind comma (decimal f ++ comma ∷ rest) ≡ rest
 behind-comma f rest = behind-at comma (decimal f) rest (number_without comma refl f)
 
-pub old_there : (f p : ℕ) → (let l : Line = record { format = f; pattern = p; added = None } in old_in (text_of l) ≡ l)
+pub old_there : (f p : ℕ) → (let l = old_line f p in old_in (text_of l) ≡ l)
 old_there f p =
     rw (before_comma f (tail p None), behind-comma f (tail p None), before_at line_feed (decimal p) [] (number_without line_feed refl p), decimal-value f, decimal-value p)
 
@@ -63,22 +60,22 @@ added_there a =
     let rest = code_text a.code ++ line_feed ∷ [] in
     rw (before_comma a.pilots rest, behind-comma a.pilots rest, decimal-value a.pilots, code_there a.code)
 
-pub longer_there : (f p : ℕ) (a : Added) → (let l : Line = record { format = f; pattern = p; added = Some a } in longer_in (text_of l) ≡ l)
+pub longer_there : (f p : ℕ) (a : Added) → (let l = longer_line f p a in longer_in (text_of l) ≡ l)
 longer_there f p a =
     let rest = decimal a.pilots ++ comma ∷ (code_text a.code ++ line_feed ∷ []) in
     rw (before_comma f (tail p (Some a)), behind-comma f (tail p (Some a)), before_comma p rest, behind-comma p rest, decimal-value f, decimal-value p, added_there a)
 
 -- so the text of numbers is a line of its form
-pub old_written : (f p : ℕ) → (let l : Line = record { format = f; pattern = p; added = None } in fits l ≡ true → is_old (text_of l) ≡ true)
+pub old_written : (f p : ℕ) → (let l = old_line f p in fits l ≡ true → is_old (text_of l) ≡ true)
 unfolding is_old
 old_written f p h =
-    let l : Line = record { format = f; pattern = p; added = None } in
+    let l = old_line f p in
     ap (is_text_of (text_of l)) (old_there f p) ∙ rw h (same_self (text_of l))
 
-pub longer_written : (f p : ℕ) (a : Added) → (let l : Line = record { format = f; pattern = p; added = Some a } in fits l ≡ true → is_longer (text_of l) ≡ true)
+pub longer_written : (f p : ℕ) (a : Added) → (let l = longer_line f p a in fits l ≡ true → is_longer (text_of l) ≡ true)
 unfolding is_longer
 longer_written f p a h =
-    let l : Line = record { format = f; pattern = p; added = Some a } in
+    let l = longer_line f p a in
     ap (is_text_of (text_of l)) (longer_there f p a) ∙ rw h (same_self (text_of l))
 
 -- a line of a form is the text of its numbers
@@ -89,6 +86,21 @@ old_is text e = (low text (old_in text) e, written text (old_in text) e)
 pub longer_is : (text : List ℕ) → is_longer text ≡ true → (fits (longer_in text) ≡ true) × (text ≡ text_of (longer_in text))
 unfolding is_longer
 longer_is text e = (low text (longer_in text) e, written text (longer_in text) e)
+
+pub old_agrees : (text : List ℕ) → (is_old text ≡ true) ↔ OldLine text
+old_agrees text = (
+  (λ e. let (h, is) = old_is text e in record { format = (old_in text).format; pattern = (old_in text).pattern; low = h; written = is }),
+  (λ w. ap is_old w.written ∙ old_written w.format w.pattern w.low),
+)
+
+pub longer_agrees : (text : List ℕ) → (is_longer text ≡ true) ↔ LongerLine text
+longer_agrees text = (
+  (λ e.
+      let (h, is) = longer_is text e in
+      let l = longer_in text in
+      record { format = l.format; pattern = l.pattern; added = added_in (behind comma (behind comma text)); low = h; written = is }),
+  (λ w. ap is_longer w.written ∙ longer_written w.format w.pattern w.added w.low),
+)
 
 old_read : (text : List ℕ) → is_old text ≡ true → line_read text ≡ Some (old_in text)
 unfolding is_old
@@ -120,7 +132,7 @@ said-longer text e =
 a_line : (f p : ℕ) (a : Option Added) → (let l : Line = record { format = f; pattern = p; added = a } in fits l ≡ true → is_line (text_of l) ≡ true)
 a_line f p None h = rw (old_written f p h)
 a_line f p (Some a) h =
-    let l : Line = record { format = f; pattern = p; added = Some a } in
+    let l = longer_line f p a in
     by_cases (is_old (text_of l)) (λ t. rw t) (λ n. rw (n, longer_written f p a h))
 
 no_line : (text : List ℕ) (o : Option Line) → line_read text ≡ o → is_line text ≡ false → o ≡ None
@@ -140,18 +152,6 @@ read_agrees text =
     (is_longer text)
     (λ t. rw (f, t) (longer_read text t))
     (λ n. rw (f, n) (no_line text (line_read text) refl (rw (f, n)))))
-
-line_well-formed : (text : List ℕ) → is_line text ≡ true → WellFormed text
-unfolding is_old is_longer
-line_well-formed text e =
-    by_cases
-    (is_old text)
-    (λ t. well-formed text (old_in text) t)
-    (λ f. well-formed text (longer_in text) (rw f at e))
-
-pub line_agrees : (text : List ℕ) → (is_line text ≡ true) ↔ WellFormed text
-line_agrees text =
-    (line_well-formed text, λ w. ap is_line w.written ∙ a_line w.line.format w.line.pattern w.line.added w.low)
 
 -- a line that is read is one of its form
 pub read-old : (text : List ℕ) (l : Line) → Some l ≡ line_of text → l.added ≡ None → (is_old text ≡ true) × (l ≡ old_in text)

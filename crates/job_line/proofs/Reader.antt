@@ -22,8 +22,8 @@ use Rattle.fields.proofs.Digits.{decimal-digits}
 use Rattle.fields.proofs.Numbers.{number_read, number_written}
 use Rattle.job_line.specs.declared.steps.Added.{Added}
 use Rattle.job_line.specs.declared.steps.Line.{Line}
-use Rattle.job_line.specs.Reader.{field, ended_of, code_read, with_code, added_read, old, longer, behind_format, line_read}
-use Rattle.job_line.specs.Line.{field_digits, code_digits, code_text, added_text, text_of, field_fits, code_fits, added_fits, fits}
+use Rattle.job_line.specs.Reader.{field, ended_of, code_read, with_code, added_read, behind_format, line_read}
+use Rattle.job_line.specs.Line.{old_line, longer_line, field_digits, code_digits, code_text, added_text, text_of, field_fits, code_fits, added_fits, fits}
 
 -- from the writer's side
 pub number_without : (b : ℕ) → is_digit b ≡ false → (n : ℕ) → place b (decimal n) ≡ length (decimal n)
@@ -138,12 +138,12 @@ pattern_is : (f : ℕ) (rest : List ℕ) (cut : Option (List ℕ × List ℕ)) (
     → (l.format ≡ f) × (rest ≡ decimal l.pattern ++ added_text l.added) × (field_fits l.pattern ≡ true) × (added_fits l.added ≡ true)
 pattern_is f rest None l cut e =
     and_then_some _ (ended_of rest) _ e λ last ended e₁.
-    map_some (old f) (field last) _ e₁ λ p read is.
+    map_some (old_line f) (field last) _ e₁ λ p read is.
     let (first, low) = field_is last p read in
     rw (← is) (refl, ended_is rest last ended ∙ ap (λ (xs : List ℕ). xs ++ line_feed ∷ []) first, low, refl)
 pattern_is f rest (Some parts) l cut e =
     and_then_some _ (field parts.0) _ e λ p read e₁.
-    map_some (longer f p) (added_read parts.1) _ e₁ λ a read-added is.
+    map_some (longer_line f p) (added_read parts.1) _ e₁ λ a read-added is.
     let (first, low) = field_is parts.0 p read in
     let (second, low') = added_is parts.1 a read-added in
     rw (← is) (refl, cut_read comma rest cut ∙ ap₂ (λ (l r : List ℕ). l ++ comma ∷ r) first second, low, low')

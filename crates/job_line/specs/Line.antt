@@ -21,6 +21,13 @@ longest_old = 2 * field_digits + 2
 abbrev pub longest_line : ℕ
 longest_line = 3 * field_digits + code_digits + 4
 
+-- the numbers of a line of each form
+abbrev pub old_line : ℕ → ℕ → Line
+old_line f p = record { format = f; pattern = p; added = None }
+
+abbrev pub longer_line : ℕ → ℕ → Added → Line
+longer_line f p a = record { format = f; pattern = p; added = Some a }
+
 -- the writer's side: the text of a line's numbers, and which numbers a line can have
 abbrev pub code_text : Option ℕ → List ℕ
 code_text None = dash ∷ []
@@ -47,20 +54,23 @@ added_fits (Some a) = field_fits a.pilots && code_fits a.code
 abbrev pub fits : Line → Bool
 fits l = field_fits l.format && field_fits l.pattern && added_fits l.added
 
--- a line is well formed exactly if it is the text of such numbers
-pub record WellFormed (text : List ℕ) : Type 0 where
-  pub line : Line
-  pub low : fits line ≡ true
-  pub written : text ≡ text_of line
+-- a text is a line of a form exactly if it is the text of such numbers
+pub record OldLine (text : List ℕ) : Type 0 where
+  pub format : ℕ
+  pub pattern : ℕ
+  pub low : fits (old_line format pattern) ≡ true
+  pub written : text ≡ text_of (old_line format pattern)
+
+pub record LongerLine (text : List ℕ) : Type 0 where
+  pub format : ℕ
+  pub pattern : ℕ
+  pub added : Added
+  pub low : fits (longer_line format pattern added) ≡ true
+  pub written : text ≡ text_of (longer_line format pattern added)
 
 -- the reader's side: the numbers that stand where those of the old form would, and of the longer
 abbrev pub old_in : List ℕ → Line
-old_in text =
-    record {
-      format = value (before comma text);
-      pattern = value (before line_feed (behind comma text));
-      added = None;
-    }
+old_in text = old_line (value (before comma text)) (value (before line_feed (behind comma text)))
 
 abbrev pub code_in : List ℕ → Option ℕ
 code_in text = if same text (dash ∷ []) then None else Some (value text)
@@ -70,11 +80,8 @@ added_in text = record { pilots = value (before comma text); code = code_in (bef
 
 abbrev pub longer_in : List ℕ → Line
 longer_in text =
-    record {
-      format = value (before comma text);
-      pattern = value (before comma (behind comma text));
-      added = Some (added_in (behind comma (behind comma text)));
-    }
+    let rest = behind comma text in
+    longer_line (value (before comma text)) (value (before comma rest)) (added_in (behind comma rest))
 
 -- a text is a line of a form if it is the text of these
 abbrev pub is_text_of : List ℕ → Line → Bool

@@ -5,7 +5,7 @@ use Rattle.ascii.specs.Text.{comma, line_feed, dash}
 use Rattle.fields.specs.Fields.{cut_at, field_of}
 use Rattle.job_line.specs.declared.steps.Added.{Added}
 use Rattle.job_line.specs.declared.steps.Line.{Line}
-use Rattle.job_line.specs.Line.{field_digits, code_digits}
+use Rattle.job_line.specs.Line.{field_digits, code_digits, old_line, longer_line}
 
 abbrev pub field : List ℕ → Option ℕ
 field = field_of field_digits
@@ -25,16 +25,10 @@ added_read text =
     (λ parts. option_and_then (λ pilots. option_and_then (λ last. option_map (with_code pilots) (code_read last)) (ended_of parts.1)) (field parts.0))
     (cut_at comma text)
 
-abbrev pub old : ℕ → ℕ → Line
-old f p = record { format = f; pattern = p; added = None }
-
-abbrev pub longer : ℕ → ℕ → Added → Line
-longer f p a = record { format = f; pattern = p; added = Some a }
-
 -- what stands behind the format: one field, or more where there is a comma
 abbrev pub behind_format : ℕ → List ℕ → Option (List ℕ × List ℕ) → Option Line
-behind_format f rest None = option_and_then (λ last. option_map (old f) (field last)) (ended_of rest)
-behind_format f rest (Some parts) = option_and_then (λ p. option_map (longer f p) (added_read parts.1)) (field parts.0)
+behind_format f rest None = option_and_then (λ last. option_map (old_line f) (field last)) (ended_of rest)
+behind_format f rest (Some parts) = option_and_then (λ p. option_map (longer_line f p) (added_read parts.1)) (field parts.0)
 
 abbrev pub line_read : List ℕ → Option Line
 line_read text =
