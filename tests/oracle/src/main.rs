@@ -12,7 +12,10 @@ use oracle::encoder::{encode, labels};
 use oracle::shared::Memory;
 use oracle::slicer::{self, Slicer};
 use oracle::tables::{self, Format};
-use oracle::{annex_d, framing, puncturing_search, segments, self_check, trellis, wrong_rows};
+use oracle::{
+    annex_d, checks, framing, job_line, puncturing_search, segments, self_check, trellis,
+    wrong_rows,
+};
 use std::io::Write;
 use std::path::PathBuf;
 use std::process::ExitCode;
@@ -32,6 +35,8 @@ const USAGE: &str = "usage: oracle [--annex-c PATH] COMMAND
   segments             a block by twelve encoders: its segments' states
   shared               five calls of two channels through one memory: what it
                        then holds, and digests
+  lines                what three job lines ask for, and what comes of them
+                       moved to either form
   ones FORMAT PATTERN  ones in the codeword of pattern 0, 1 or 2
   annex-d              the spread of each interleaver
   wrong-rows           how often annex D's rule misses a wrong row of annex C
@@ -45,6 +50,10 @@ const ENCODERS: usize = 12;
 
 /// Two channels' calls: formats 13 and 28 have one size, format 27 another.
 const CHANNELS: [(char, u64); 5] = [('A', 13), ('B', 28), ('A', 13), ('B', 27), ('A', 13)];
+
+/// An old job line, the longer one that says the same, and one that does not go
+/// back.
+const LINES: [&str; 3] = ["13,0", "13,0,0,-", "37,2,1,262142"];
 
 fn main() -> ExitCode {
     let arguments: Vec<String> = std::env::args().skip(1).collect();
@@ -82,6 +91,7 @@ fn command(arguments: &[String]) -> Result<(String, ExitCode), String> {
         ["runs"] => runs(),
         ["segments"] => parallel(&annex_c()?),
         ["shared"] => shared(&annex_c()?),
+        ["lines"] => lines(),
         ["ones", format, pattern] => ones(&annex_c()?, format, pattern)?,
         ["annex-d"] => annex_d::listing(&annex_c()?),
         ["wrong-rows"] => wrong_rows::listing(&annex_c()?),
@@ -215,6 +225,28 @@ fn shared(annex_c: &AnnexC) -> String {
             memory.held,
             digest(&given.codeword),
             digest(&memory.entries[..memory.held as usize]),
+        ));
+    }
+    text
+}
+
+/// What job lines ask for, and what comes of them moved to either form.
+fn lines() -> String {
+    let mut text = String::from("line,format,pattern,pilots,code,lengthened,shortened\n");
+    for line in LINES {
+        let input = format!("{line}\n").into_bytes();
+        let job = job_line::job(&input).job.expect("a job");
+        let code = job.code.map_or("-".into(), |code| code.to_string());
+        let [longer, old] = [job_line::lengthen, job_line::shorten].map(|into| {
+            let moved = into(&input, usize::MAX);
+            match moved.number {
+                checks::PASSED => String::from_utf8_lossy(&moved.text).trim_end().into(),
+                number => format!("refused,{number}"),
+            }
+        });
+        text.push_str(&format!(
+            "\"{line}\",{},{},{},{code},\"{longer}\",\"{old}\"\n",
+            job.format, job.pattern, job.pilots,
         ));
     }
     text
