@@ -17,10 +17,10 @@ use Rattle.ascii.specs.Text.{decimal, decimal_within}
 use Rattle.job_line.specs.declared.steps.Added.{Added}
 use Rattle.job_line.specs.declared.steps.Line.{Line}
 use Rattle.job_line.specs.Line.{longest_old, text_of, fits, is_old, is_longer, is_line, old_in, longer_in}
-use Rattle.job_line.specs.Job.{numbers_checks, added_checks, said_checks, said_number, job_number, Answer, accepted, refused, asked}
+use Rattle.job_line.specs.Job.{plain, numbers_checks, added_checks, said_checks, said_number, job_number, Answer, accepted, refused, asked}
 use Rattle.job_line.proofs.Reader.{low_of}
 use Rattle.job_line.proofs.Lines.{old_agrees, longer_agrees, apart, old_is, longer_is, old_there, longer_there, old_written, longer_written, said-old, said-longer, old-short, longer-short}
-use Rattle.job_moves.specs.Moves.{plain, with_added, is_plain, lengthened, shortened, room_checks, old_number, lengthen_number, shorten_number}
+use Rattle.job_moves.specs.Moves.{with_added, is_plain, lengthened, shortened, room_checks, old_number, lengthen_number, shorten_number}
 use Rattle.job_moves.proofs.Bytes.{lengthened_bytes, shortened_bytes, plain-is, plain_text}
 use Rattle.job_moves.proofs.Checked.{lengthen_passed, shorten_passed}
 use Rattle.claims.specs.JobLine as claim

@@ -5,8 +5,8 @@ use Rattle.ascii.specs.Text.{ascii}
 use Rattle.job_line.specs.declared.steps.Added.{Added}
 use Rattle.job_line.specs.declared.steps.Line.{Line}
 use Rattle.job_line.specs.Line.{OldLine, LongerLine, longest_old, longest_line, text_of, fits, is_old, is_longer}
-use Rattle.job_line.specs.Job.{said_number, job_number, asked}
-use Rattle.job_moves.specs.Moves.{plain, lengthened, shortened, old_number, lengthen, shorten}
+use Rattle.job_line.specs.Job.{plain, said_number, job_number, asked}
+use Rattle.job_moves.specs.Moves.{lengthened, shortened, old_number, lengthen, shorten}
 
 -- a text is a line of a form exactly if it is the text of a line's numbers, and no text is one of both
 abbrev pub Lines : Type 0

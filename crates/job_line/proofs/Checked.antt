@@ -20,14 +20,14 @@ use Rattle.header.specs.Descriptor.{pilots_on}
 use Rattle.job_line.specs.declared.Job.{Job}
 use Rattle.job_line.specs.declared.steps.Line.{Line}
 use Rattle.job_line.specs.Line.{is_line, said, line_of}
-use Rattle.job_line.specs.Job.{patterns, pilots_of, code_of, code_legal, said_number, job_checks, job_number, Answer, accepted, refused, line_of_job, answer_of, asked}
+use Rattle.job_line.specs.Job.{patterns, added_of, code_legal, said_number, job_checks, job_number, Answer, accepted, refused, line_of_job, answer_of, asked}
 
 pub record JobPassed (text : List ℕ) : Type 0 where
   pub line : is_line text ≡ true
   pub format : is_format (said text).format ≡ true
   pub pattern : (said text).pattern < patterns
-  pub pilots : pilots_of (said text).added ≤ pilots_on
-  pub code : code_legal (code_of (said text).added) ≡ true
+  pub pilots : (added_of (said text)).pilots ≤ pilots_on
+  pub code : code_legal (added_of (said text)).code ≡ true
 
 pub job_passed : (text : List ℕ) → job_number text ≡ passed → JobPassed text
 unfolding job_number

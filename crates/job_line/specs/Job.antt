@@ -1,5 +1,5 @@
 -- The job that a text asks for, or the number of the check that refuses it: 6, then 1, 7, 14 and 16.
-use Rattle.std.specs.Prelude.{Bool, true, List, [], ◌∷◌, ◌++◌, ℕ, eqb, leb, ltb, if◌then◌else◌, Option, Some, None, option_map, Result, Ok, Err}
+use Rattle.std.specs.Prelude.{Bool, true, List, [], ◌∷◌, ◌++◌, ℕ, eqb, leb, ltb, if◌then◌else◌, Option, Some, None, option_map, unwrap_or, Result, Ok, Err}
 use Rattle.bits.specs.Checks.{Check, ◌or_else◌, first_failed, check_number, passed, bad_format, bad_line, bad_pattern, bad_pilots, bad_code}
 use Rattle.bits.specs.declared.checks.Refusal.{Refusal}
 use Rattle.acm.specs.Formats.{is_format}
@@ -14,14 +14,12 @@ use Rattle.job_line.specs.Line.{is_line, said}
 abbrev pub patterns : ℕ
 patterns = 3
 
--- a line of the old form has no pilots, and nothing of it is scrambled
-abbrev pub pilots_of : Option Added → ℕ
-pilots_of None = pilots_off
-pilots_of (Some a) = a.pilots
+-- no pilots, and nothing scrambled: what a line of the old form stands for
+abbrev pub plain : Added
+plain = record { pilots = pilots_off; code = None }
 
-abbrev pub code_of : Option Added → Option ℕ
-code_of None = None
-code_of (Some a) = a.code
+abbrev pub added_of : Line → Added
+added_of l = unwrap_or l.added plain
 
 abbrev pub code_legal : Option ℕ → Bool
 code_legal None = true
@@ -36,8 +34,8 @@ numbers_checks l =
 
 abbrev pub added_checks : Line → List Check
 added_checks l =
-    leb (pilots_of l.added) pilots_on or_else bad_pilots
-    ∷ code_legal (code_of l.added) or_else bad_code
+    leb (added_of l).pilots pilots_on or_else bad_pilots
+    ∷ code_legal (added_of l).code or_else bad_code
     ∷ []
 
 abbrev pub said_checks : Line → List Check
@@ -65,7 +63,7 @@ pub record Answer : Type 0 where
   pub code : Option ℕ
 
 abbrev pub accepted : Line → Answer
-accepted l = record { number = passed; format = l.format; pattern = l.pattern; pilots = pilots_of l.added; code = code_of l.added }
+accepted l = record { number = passed; format = l.format; pattern = l.pattern; pilots = (added_of l).pilots; code = (added_of l).code }
 
 abbrev pub refused : ℕ → Answer
 refused number = record { number = number; format = 0; pattern = 0; pilots = 0; code = None }

@@ -39,8 +39,8 @@ pub struct Added {
     pub code: Option<u64>,
 }
 
-// What a line of the old form stands for.
-const OLD: Added = Added {
+// No pilots, and nothing scrambled: what a line of the old form stands for.
+pub const PLAIN: Added = Added {
     pilots: 0,
     code: None,
 };
@@ -118,7 +118,7 @@ pub fn check(line: Line) -> Result<Job, Refusal>
     if LAST_PATTERN < pattern {
         return Err(Refusal::Pattern);
     }
-    let Added { pilots, code } = line.added.unwrap_or(OLD);
+    let Added { pilots, code } = line.added.unwrap_or(PLAIN);
     let pilots = Pilots::try_from(pilots)?;
     let code = check_code(code)?;
     Ok(Job {

@@ -17,7 +17,8 @@ use Rattle.job_line.specs.declared.steps.Line.{Line}
 use Rattle.fields.specs.Fields.{behind}
 use Rattle.job_line.specs.Line.{added_in, added_text, text_of, is_old, is_longer, old_in, longer_in}
 use Rattle.job_line.proofs.Lines.{old_is, longer_is}
-use Rattle.job_moves.specs.Moves.{plain, with_added, is_unscrambled, is_plain, lengthened, shortened}
+use Rattle.job_line.specs.Job.{plain}
+use Rattle.job_moves.specs.Moves.{with_added, is_unscrambled, is_plain, lengthened, shortened}
 
 -- both begin alike
 abbrev front : Line → List ℕ

@@ -16,9 +16,9 @@ use Rattle.bits.proofs.Refusals.{not_passed}
 use Rattle.job_line.specs.declared.steps.Added.{Added}
 use Rattle.job_line.specs.declared.steps.Line.{Line}
 use Rattle.job_line.specs.Line.{is_old, is_longer, old_in, longer_in, said, line_of}
-use Rattle.job_line.specs.Job.{numbers_checks, said_checks, said_number}
+use Rattle.job_line.specs.Job.{plain, numbers_checks, said_checks, said_number}
 use Rattle.job_line.proofs.Lines.{apart, read-old, read-longer}
-use Rattle.job_moves.specs.Moves.{plain, is_plain, lengthened, old_checks, old_number, shortened, plain_checks, plain_number, room_checks, room_number, lengthen_number, shorten_number, answer_of, moved, written_over}
+use Rattle.job_moves.specs.Moves.{is_plain, lengthened, old_checks, old_number, shortened, plain_checks, plain_number, room_checks, room_number, lengthen_number, shorten_number, answer_of, moved, written_over}
 use Rattle.job_moves.proofs.Bytes.{plain-is}
 
 -- a move whose line is refused, and one whose line is not

@@ -6,13 +6,9 @@ use Rattle.ascii.specs.Text.{at_front}
 use Rattle.job_line.specs.declared.steps.Added.{Added}
 use Rattle.job_line.specs.declared.steps.Line.{Line}
 use Rattle.job_line.specs.Line.{text_of, is_old, is_longer, old_in, longer_in}
-use Rattle.job_line.specs.Job.{numbers_checks, said_checks}
+use Rattle.job_line.specs.Job.{plain, numbers_checks, said_checks}
 
--- what the longer form adds to a line that moves there
-abbrev pub plain : Added
-plain = record { pilots = 0; code = None }
-
--- the same format and pattern in the other form
+-- the same format and pattern in the other form: plain in the longer
 abbrev pub with_added : Option Added → Line → Line
 with_added added l = record { format = l.format; pattern = l.pattern; added = added }
 
@@ -29,7 +25,7 @@ is_unscrambled (Some n) = false
 
 abbrev pub is_plain : Option Added → Bool
 is_plain None = false
-is_plain (Some a) = eqb a.pilots 0 && is_unscrambled a.code
+is_plain (Some a) = eqb a.pilots plain.pilots && is_unscrambled a.code
 
 -- the checks of the line that moves, and of the room for the one that is written
 abbrev pub old_checks : List ℕ → List Check

@@ -8,17 +8,12 @@ ghost use Rattle.job_moves.specs.Moves.{answer_of, lengthen, lengthen_output, mo
 ghost use Rattle.job_moves.specs.Printed.{lengthen_printed, shorten_printed};
 
 use bits::Refusal;
-use job_line::steps::{Added, check, read};
+use job_line::steps::{PLAIN, check, read};
 
 // How a line of the old form ends, and how one of the longer does that has no pilots and is unscrambled.
 const OLD_END: &[u8; 1] = b"\n";
 
 const LONGER_END: &[u8; 5] = b",0,-\n";
-
-const PLAIN: Added = Added {
-    pilots: 0,
-    code: None,
-};
 
 // A line of the old form in the longer one, to the front of out; answers its length.
 // Checks: 6, the text is a well-formed line of the old form; 1; 7; 5, out has room for the line that is written.

@@ -3,8 +3,7 @@ use mathlib.Core.Path.{◌≡◌, sym, ◌∙◌}
 use borrow.Author.Rules.{rules}
 use Rattle.bits.specs.Checks.{number_of, passed}
 use Rattle.bits.proofs.Refusals.{not_passed}
-use Rattle.job_line.specs.Job.{said_number}
-use Rattle.job_moves.specs.Moves.{plain}
+use Rattle.job_line.specs.Job.{plain, said_number}
 use Rattle.job_moves.proofs.Checked.{none_plain, not_plain, other_plain, said_refused, plain_asked}
 use Rattle.job_moves.proofs.check_plain.Goals as goal
 
