@@ -88,14 +88,13 @@ back text room e =
     let l = old_in text in
     let (h, is) = old_is text pass.old in
     let written = ap lengthened is ∙ lengthened-at l room h in
-    let home = ap shortened written ∙ shortened-at l plain room (longer-fits l h) ∙ sym is in
-    (
+    let home = ap shortened written ∙ shortened-at l plain room (longer-fits l h) ∙ sym is in (
       home,
       (λ room' fits.
-        ap (λ (t : List ℕ). shorten_number t room') written
-        ∙ shorten_at l plain room' (longer-fits l h)
-        ∙ fails_later (numbers_checks l) (room_checks (text_of (old l)) room') refl pass.said
-        ∙ room_passes (text_of (old l)) room' (omega (arith, ap length is))),
+          ap (λ (t : List ℕ). shorten_number t room') written
+          ∙ shorten_at l plain room' (longer-fits l h)
+          ∙ fails_later (numbers_checks l) (room_checks (text_of (old l)) room') refl pass.said
+          ∙ room_passes (text_of (old l)) room' (omega (arith, ap length is))),
     )
 
 there : claim.There
@@ -104,14 +103,13 @@ there text room e =
     let l = longer_in text in
     let (h, is) = longer_is text pass.longer in
     let is' = plain_text text pass.longer pass.plain in
-    let written = ap shortened is' ∙ shortened-at l plain room (longer-fits l h) in
-    (
+    let written = ap shortened is' ∙ shortened-at l plain room (longer-fits l h) in (
       ap lengthened written ∙ lengthened-at l room h ∙ sym is',
       (λ room' fits.
-        ap (λ (t : List ℕ). lengthen_number t room') written
-        ∙ lengthen_at l room' h
-        ∙ fails_later (numbers_checks l) (room_checks (text_of (longer l)) room') refl (before_passes (numbers_checks l) (added_checks l) pass.said)
-        ∙ room_passes (text_of (longer l)) room' (omega (arith, ap length is'))),
+          ap (λ (t : List ℕ). lengthen_number t room') written
+          ∙ lengthen_at l room' h
+          ∙ fails_later (numbers_checks l) (room_checks (text_of (longer l)) room') refl (before_passes (numbers_checks l) (added_checks l) pass.said)
+          ∙ room_passes (text_of (longer l)) room' (omega (arith, ap length is'))),
     )
 
 abbrev ask : Bool → Line → Answer

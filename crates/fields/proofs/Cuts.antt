@@ -29,7 +29,7 @@ module _ (text : List ℕ) (b : ℕ) where
   cut_found k e =
       let (is, inside) = place_found b text k e in
       let all : take (length text - (k + 1)) (drop (k + 1) text) ≡ drop (k + 1) text =
-        take_all (length text - (k + 1)) (drop (k + 1) text) (simp length-drop (omega arith)) in
+      take_all (length text - (k + 1)) (drop (k + 1) text) (simp length-drop (omega arith)) in
       rw (all, is, lt-ltb (place b text) (length text) (rw is at inside))
 
 -- the two parts with the byte between

@@ -79,7 +79,7 @@ value_low m n [] h t = omega arith
 value_low m n (d ∷ ds) h t =
     let (low, high) = digits_head d ds t in
     let one_more : 10 * m * 10 ^ length ds ≡ m * 10 ^ suc (length ds) =
-      rw (pow-succ' 10 (length ds), mul_comm 10 m) (mul_assoc m 10 (10 ^ length ds)) in
+    rw (pow-succ' 10 (length ds), mul_comm 10 m) (mul_assoc m 10 (10 ^ length ds)) in
     omega (arith, value_low (10 * m) (10 * n + (d - zero_digit)) ds (omega arith) (digits-tail d ds t), one_more)
 
 pub value-bound : (k : ℕ) (text : List ℕ) → length text ≤ k → all_digits text ≡ true → value text < 10 ^ k
