@@ -5,7 +5,8 @@ use mathlib.Core.List.{List, [], ◌∷◌, ◌++◌}
 use Prim.Native.Nat.{ℕ, zero, suc, zero-le, ◌≤◌}
 use native.Mathlib.Omega.{arith}
 use borrow.Author.Tests.{le-leb, lt-leb, leb-true, leb-false}
-use Rattle.std.specs.Prelude.{fold, max}
+use Rattle.std.specs.Prelude.{◌↔◌, IsTrue, fold, max}
+use Rattle.std.specs.List.{All}
 use lib.Dec.{leb}
 use lib.ListN.{get_or, take, drop, replicate, take-append-drop}
 use Rattle.bits.specs.Legal.{all_at_most}
@@ -88,3 +89,18 @@ legal-append top (x ∷ a) b e f =
 pub legal_repeated : (top n x : ℕ) → x ≤ top → all_at_most top (replicate n x) ≡ true
 legal_repeated top zero x h = refl
 legal_repeated top (suc n) x h = rw (le-leb x top h) (legal_repeated top n x h)
+
+-- what a scan finds
+all-low : (top : ℕ) (l : List ℕ) → All (λ x. x ≤ top) l → all_at_most top l ≡ true
+all-low top [] h = refl
+all-low top (x ∷ l) h = rw (le-leb x top (h 0 0 (omega arith))) (all-low top l (λ k d s. h (suc k) d (omega arith)))
+
+each_low : (top : ℕ) (l : List ℕ) → all_at_most top l ≡ true → All (λ x. x ≤ top) l
+each_low top [] e k d s = absurd (omega arith)
+each_low top (x ∷ l) e zero d s = legal_head top x l e
+each_low top (x ∷ l) e (suc k) d s = each_low top l (legal-tail top x l e) k d (omega arith)
+
+pub low_is : (top : ℕ) (l : List ℕ) (low : Bool) → IsTrue low ↔ All (λ x. x ≤ top) l → low ≡ all_at_most top l
+low_is top l true h = sym (all-low top l (h.0 refl))
+low_is top l false h =
+    by_cases (all_at_most top l) (λ t. absurd (false≢true (h.1 (each_low top l t)))) (λ f. sym f)

@@ -1,15 +1,10 @@
 -- What std's scans find in a list of cuts: that it does not fall, and that none is beyond the input.
-use Rattle.std.proofs.Common.{◌≡◌, ℕ, zero, suc, zero-le, ◌+◌, ◌≤◌, ◌<◌, Bool, true, false, List, [], ◌∷◌, length, get_or, replicate, refl, sym, arith, add-one, ◌↔◌}
-use Rattle.std.specs.Prelude.{IsTrue}
+use Rattle.std.proofs.Common.{◌≡◌, ℕ, zero, suc, zero-le, ◌+◌, ◌≤◌, ◌<◌, Bool, true, false, List, [], ◌∷◌, length, get_or, replicate, refl, sym, arith, add-one}
 use Rattle.std.specs.Bool.{MatchBool}
-use Rattle.std.specs.List.{All}
 use Rattle.std.specs.List.Sorted.{IsNonDecreasing}
 use borrow.Author.Tests.{le-leb, lt-leb}
 use lib.Dec.{leb}
-use mathlib.Core.Bool.{false≢true}
-use Rattle.bits.specs.Legal.{all_at_most}
-use Rattle.bits.proofs.Cases.{by_cases}
-use Rattle.bits.proofs.Legal.{and-false, legal_head, legal-tail}
+use Rattle.bits.proofs.Legal.{and-false}
 use Rattle.cuts.specs.Cuts.{rises_from}
 
 rising : (from : ℕ) (cuts : List ℕ) → ((k : ℕ) → k < length cuts → get_or (from ∷ cuts) k 0 ≤ get_or cuts k 0) → rises_from from cuts ≡ true
@@ -29,20 +24,6 @@ sorted_is cuts true h = sym (rising 0 cuts up)
     up zero l = zero-le
     up (suc k) l = h k (suc k) 0 (omega arith) l
 sorted_is cuts false (k, l, h) = sym (falling 0 cuts (suc k) (omega arith) (rw (add-one k) at (h 0)))
-
-all-low : (top : ℕ) (l : List ℕ) → All (λ x. x ≤ top) l → all_at_most top l ≡ true
-all-low top [] h = refl
-all-low top (x ∷ l) h = rw (le-leb x top (h 0 0 (omega arith))) (all-low top l (λ k d s. h (suc k) d (omega arith)))
-
-each_low : (top : ℕ) (l : List ℕ) → all_at_most top l ≡ true → All (λ x. x ≤ top) l
-each_low top [] e k d s = absurd (omega arith)
-each_low top (x ∷ l) e zero d s = legal_head top x l e
-each_low top (x ∷ l) e (suc k) d s = each_low top l (legal-tail top x l e) k d (omega arith)
-
-pub low_is : (top : ℕ) (l : List ℕ) (low : Bool) → IsTrue low ↔ All (λ x. x ≤ top) l → low ≡ all_at_most top l
-low_is top l true h = sym (all-low top l (h.0 refl))
-low_is top l false h =
-    by_cases (all_at_most top l) (λ t. absurd (false≢true (h.1 (each_low top l t)))) (λ f. sym f)
 
 -- cuts at one place do not fall
 pub rises_repeated : (n c : ℕ) → rises_from 0 (replicate n c) ≡ true

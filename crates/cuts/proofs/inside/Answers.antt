@@ -2,7 +2,8 @@ use Rattle.std.proofs.Common.{◌≤◌, rules, ◌↔◌, sym, ◌∙◌}
 use Rattle.std.specs.Prelude.{IsTrue}
 use Rattle.std.specs.List.{All}
 use Rattle.std.proofs.lemmas.List.Sorted.{non_decreasing_from_is_sorted}
-use Rattle.cuts.proofs.Scan.{sorted_is, low_is}
+use Rattle.bits.proofs.Legal.{low_is}
+use Rattle.cuts.proofs.Scan.{sorted_is}
 use Rattle.cuts.proofs.inside.Goals as goal
 
 pub returns-then-is_sorted : goal.returns-then-is_sorted
