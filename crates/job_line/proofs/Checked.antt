@@ -20,7 +20,8 @@ use Rattle.header.specs.Descriptor.{pilots_on}
 use Rattle.job_line.specs.declared.Job.{Job}
 use Rattle.job_line.specs.declared.steps.Line.{Line}
 use Rattle.job_line.specs.Line.{is_line, said, line_of}
-use Rattle.job_line.specs.Job.{patterns, added_of, code_legal, said_number, job_checks, job_number, Answer, accepted, refused, line_of_job, answer_of, asked}
+use Rattle.scrambling.specs.Code.{code_legal}
+use Rattle.job_line.specs.Job.{patterns, added_of, said_number, job_checks, job_number, Answer, accepted, refused, line_of_job, answer_of, asked}
 
 pub record JobPassed (text : List ℕ) : Type 0 where
   pub line : is_line text ≡ true

@@ -1,10 +1,10 @@
 -- The job that a text asks for, or the number of the check that refuses it: 6, then 1, 7, 14 and 16.
-use Rattle.std.specs.Prelude.{Bool, true, List, [], ◌∷◌, ◌++◌, ℕ, eqb, leb, ltb, if◌then◌else◌, Option, Some, None, option_map, unwrap_or, Result, Ok, Err}
+use Rattle.std.specs.Prelude.{List, [], ◌∷◌, ◌++◌, ℕ, eqb, leb, ltb, if◌then◌else◌, Option, Some, None, option_map, unwrap_or, Result, Ok, Err}
 use Rattle.bits.specs.Checks.{Check, ◌or_else◌, first_failed, check_number, passed, bad_format, bad_line, bad_pattern, bad_pilots, bad_code}
 use Rattle.bits.specs.declared.checks.Refusal.{Refusal}
 use Rattle.acm.specs.Formats.{is_format}
 use Rattle.header.specs.Descriptor.{choice_number, pilots_off, pilots_on}
-use Rattle.scrambling.specs.Code.{is_code}
+use Rattle.scrambling.specs.Code.{code_legal}
 use Rattle.job_line.specs.declared.steps.Added.{Added}
 use Rattle.job_line.specs.declared.steps.Line.{Line}
 use Rattle.job_line.specs.declared.Job.{Job}
@@ -21,10 +21,6 @@ plain = record { pilots = pilots_off; code = None }
 abbrev pub added_of : Line → Added
 added_of l = unwrap_or l.added plain
 
-abbrev pub code_legal : Option ℕ → Bool
-code_legal None = true
-code_legal (Some n) = is_code n
-
 -- of what a line of the old form says, and of what the longer says besides
 abbrev pub numbers_checks : Line → List Check
 numbers_checks l =
@@ -40,10 +36,6 @@ added_checks l =
 
 abbrev pub said_checks : Line → List Check
 said_checks l = numbers_checks l ++ added_checks l
-
--- of a code number alone
-abbrev pub code_number : Option ℕ → ℕ
-code_number code = first_failed (code_legal code or_else bad_code ∷ [])
 
 unfoldable pub said_number : Line → ℕ
 said_number l = first_failed (said_checks l)

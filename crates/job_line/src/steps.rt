@@ -4,7 +4,7 @@ ghost use Rattle.bits.specs.Checks.{number_of};
 ghost use Rattle.ascii.specs.Text.{comma};
 ghost use Rattle.fields.specs.Fields.{cut_at};
 ghost use Rattle.job_line.specs.Line.{line_of};
-ghost use Rattle.job_line.specs.Job.{accepted, code_number, line_of_job, said_number};
+ghost use Rattle.job_line.specs.Job.{accepted, line_of_job, said_number};
 ghost use Rattle.job_line.specs.Reader.{added_read, behind_format, code_read, ended_of};
 
 use crate::Job;
@@ -13,7 +13,6 @@ use ascii::steps::{COMMA, DASH, LINE_FEED};
 use bits::Refusal;
 use fields::steps::{cut, number};
 use header::Pilots;
-use scrambling::CodeNumber;
 
 // Most digits of a field, and of the code number.
 const FIELD_DIGITS: usize = 3;
@@ -120,22 +119,11 @@ pub fn check(line: Line) -> Result<Job, Refusal>
     }
     let Added { pilots, code } = line.added.unwrap_or(PLAIN);
     let pilots = Pilots::try_from(pilots)?;
-    let code = check_code(code)?;
+    let code = scrambling::check(code)?;
     Ok(Job {
         format,
         pattern,
         pilots,
         code,
     })
-}
-
-// The code number of a line, if there is such a code.
-fn check_code(code: Option<u64>) -> Result<Option<CodeNumber>, Refusal>
-    ensures number { number_of result ≡ code_number code }
-    ensures known { IfOk result (λ code_of. option_map (λ c. c.number) code_of ≡ code) }
-{
-    match code {
-        None => Ok(None),
-        Some(number) => Ok(Some(CodeNumber::try_from(number)?)),
-    }
 }

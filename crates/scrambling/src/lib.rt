@@ -1,9 +1,10 @@
 // The code numbers of the physical-layer randomizer (000, annex E).
 #![tactic(auto)]
 
-ghost use Rattle.std.specs.Prelude.{◌≡◌, true, false, MatchResult};
+ghost use Rattle.std.specs.Prelude.{◌≡◌, true, false, IfOk, MatchResult, option_map};
+ghost use Rattle.bits.specs.Checks.{number_of};
 ghost use Rattle.bits.specs.declared.checks.Refusal.TheVariants as refusal;
-ghost use Rattle.scrambling.specs.Code.{is_code};
+ghost use Rattle.scrambling.specs.Code.{code_number, is_code};
 
 use bits::Refusal;
 
@@ -28,5 +29,17 @@ impl TryFrom<u64> for CodeNumber {
             return Err(Refusal::Code);
         }
         Ok(CodeNumber { number })
+    }
+}
+
+// The code that a number names, if there is such a code; none where nothing is scrambled.
+// Checks: 16.
+pub fn check(code: Option<u64>) -> Result<Option<CodeNumber>, Refusal>
+    ensures number { number_of result ≡ code_number code }
+    ensures known { IfOk result (λ code_of. option_map (λ c. c.number) code_of ≡ code) }
+{
+    match code {
+        None => Ok(None),
+        Some(number) => Ok(Some(CodeNumber::try_from(number)?)),
     }
 }
