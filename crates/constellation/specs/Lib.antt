@@ -1,0 +1,3 @@
+pub mod Points
+pub mod Rings
+pub mod Table

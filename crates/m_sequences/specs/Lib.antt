@@ -1,0 +1,2 @@
+pub mod MSequences
+pub mod Tables
