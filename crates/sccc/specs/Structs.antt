@@ -17,6 +17,7 @@ use Rattle.slicer.specs.Change.{LookAnswer as Look}
 use Rattle.slicer.specs.declared.Slicer as below
 use Rattle.job_line.specs.Job as job
 use Rattle.job_moves.specs.Moves.{Moved}
+use Rattle.waveform.specs.Waveform as waveform
 use Rattle.sccc.specs.declared.FormatInfo.{FormatInfo}
 use Rattle.sccc.specs.declared.Stepped.{Stepped}
 use Rattle.sccc.specs.declared.Interleaved.{Interleaved}
@@ -32,6 +33,7 @@ use Rattle.sccc.specs.declared.stream.Slicer.{Slicer}
 use Rattle.sccc.specs.declared.stream.SlicerAnswer.{SlicerAnswer}
 use Rattle.sccc.specs.declared.stream.BlockAnswer.{BlockAnswer}
 use Rattle.sccc.specs.declared.stream.LookAnswer.{LookAnswer}
+use Rattle.sccc.specs.declared.waveform.PointAnswer.{PointAnswer}
 
 abbrev pub info_struct : acm.Answer → Provenance → FormatInfo
 info_struct a p =
@@ -116,3 +118,10 @@ job_struct a =
 
 abbrev pub line_struct : Moved → LineAnswer
 line_struct m = record { number = m.number; length = m.length }
+
+-- and back
+abbrev pub code_of : ℕ → Option ℕ
+code_of word = if eqb word unscrambled then None else Some word
+
+abbrev pub point_struct : waveform.Answer → PointAnswer
+point_struct a = record { number = a.number; i = a.point.i; q = a.point.q }

@@ -1,7 +1,7 @@
 // The C interface of include/sccc.h, thin over the layers below.
 // An exported function can return neither a slice nor an enum, so the answers are structs: the number of the check that failed, 0 if none did,
-// and what was asked for, 64-bit numbers or, of segments, arrays of bytes. A refusal has 0 in every other field but a slicer and the size that a
-// memory holds, which it gives back.
+// and what was asked for: 64-bit numbers, of a point two floats, or of segments arrays of bytes. A refusal has 0 in every other field but a slicer
+// and the size that a memory holds, which it gives back.
 // Between C's 64-bit numbers and lengths stands `as`: std has no `From` there, and that nothing is lost is proved.
 #![tactic(auto)]
 
@@ -27,6 +27,7 @@ pub mod lines;
 pub mod machine;
 pub mod run;
 pub mod stream;
+pub mod waveform;
 
 // The number in the answer of a call that fails no check.
 const PASSED: u64 = 0;

@@ -10,7 +10,7 @@ use job_line::Job;
 use scrambling::CodeNumber;
 
 // For a code number: none.
-const UNSCRAMBLED: u64 = u64::MAX;
+pub(crate) const UNSCRAMBLED: u64 = u64::MAX;
 
 // What a job line asks for. A line of the old form has pilots 0 and is unscrambled.
 #[repr(C)]
