@@ -2,14 +2,14 @@
  * sccc.h: the SCCC encoder of CCSDS 131.2-O-1 and of its extension CCSDS 131.21-O-1 (SCCC-X, here
  * document 004: formats 28 to 37) for C and C++, from transfer frames to information blocks, from a
  * block to its codeword, the codeword's labels and a frame with or without pilots, a comparison of
- * two label lists, and the job lines of a bench. Link build/libsccc.a or build/libsccc.so (x86-64
- * Linux).
+ * two label lists, the job lines of a bench, and for a signal generator the points of formats 33 to
+ * 37. Link build/libsccc.a or build/libsccc.so (x86-64 Linux).
  *
  * Data      A bit is a byte, 0 or 1. A label is a byte below 2^m. A slot of a frame is a uint16_t,
  *           and so are a cut of a trellis' input and an entry of an interleaver's memory. An octet
- *           of a transfer frame is a byte, and so is a character of a job line (ASCII). Places and
- *           positions count from 0. K, K1, I, W, N and m are those of the ACM format; K1 is K in
- *           formats 1 to 27, less in the others.
+ *           of a transfer frame is a byte, and so is a character of a job line (ASCII). A point's
+ *           coordinates are doubles. Places and positions count from 0. K, K1, I, W, N and m are
+ *           those of the ACM format; K1 is K in formats 1 to 27, less in the others.
  *
  * Answers   A call makes its checks in the order that is given with it. The number of the first
  *           one that fails is the answer, 0 if none does. Every argument has an answer: a number
@@ -46,10 +46,11 @@ extern "C" {
 
 /* The checks' numbers. */
 #define SCCC_PASSED 0           /* every check holds */
-#define SCCC_BAD_FORMAT 1       /* the format is not 1 to 37 */
+#define SCCC_BAD_FORMAT 1       /* the format is not 1 to 37, for a point not 33 to 37 */
 #define SCCC_BAD_LENGTH 2       /* a list is not as long as the call takes, or too many bits wait */
 #define SCCC_BAD_ELEMENT 3      /* a bit is not 0 or 1, a label not below 2^m, a state not 0 to 3,
-                                   an entry of a memory not its position's */
+                                   an entry of a memory not its position's, a point's slot not 0
+                                   to 255 */
 #define SCCC_SHORT_WORKSPACE 4  /* the workspace or a slicer's memory is too short */
 #define SCCC_SHORT_OUTPUT 5     /* the output is too short */
 #define SCCC_BAD_LINE 6         /* the job line is not well formed, or of the other form */
@@ -95,6 +96,11 @@ extern "C" {
 #define SCCC_LONGEST_LINE 19        /* and of the longer form */
 #define SCCC_LAST_CODE 262142       /* code numbers are 0 to 262,142 */
 #define SCCC_UNSCRAMBLED UINT64_MAX /* and this stands for none */
+
+/* The points' formats and labels, and the places of symbols. */
+#define SCCC_FIRST_POINT_FORMAT 33 /* points are of formats 33 to 37 */
+#define SCCC_POINTS 256            /* one for each label */
+#define SCCC_POINT_PLACES 133760   /* places are below this */
 
 /*
  * provisional: 1 where the interleaver has rows that stand in for published ones, else 0
@@ -174,6 +180,12 @@ typedef struct {
 typedef struct {
     uint64_t number, length;
 } sccc_line_answer;
+
+/* the in-phase and the quadrature coordinate */
+typedef struct {
+    uint64_t number;
+    double i, q;
+} sccc_point_answer;
 
 /*
  * sccc_format: an ACM format's parameters (tables 4-1, 4-3; 004, tables 3-1, 4-1, 5-3).
@@ -512,6 +524,25 @@ sccc_line_answer sccc_job_lengthen(const uint8_t *line, size_t line_len, uint8_t
  */
 sccc_line_answer sccc_job_shorten(const uint8_t *line, size_t line_len, uint8_t *out,
                                   size_t out_len);
+
+/*
+ * sccc_point: the point of a symbol, for a signal generator (004, table 5-2; annex E).
+ *
+ * A place counts the symbols behind a frame's header, pilots among them: slot s has place s - 320.
+ * The code number is as sccc_job gives it, with SCCC_UNSCRAMBLED for none.
+ *
+ * Computes  the coordinates of a label's point: each the whole number of ten-thousandths that the
+ *           table prints, divided by 10,000 with one rounding. With a code number the point is
+ *           turned by the 0 to 3 quarter turns that the physical-layer randomizer has at the place;
+ *           this swaps and negates the coordinates and rounds nothing.
+ * Checks    1   the format is 33 to 37
+ *           3   the slot is at most 255, so a label, and no marker bit, descriptor bit or pilot
+ *           16  the code number is at most 262,142, or there is none
+ *           8   the place is below 133,760
+ * Success   number is 0, and i and q are the coordinates.
+ * Refusal   number is the check's, and i and q are +0.0.
+ */
+sccc_point_answer sccc_point(uint64_t format, uint64_t slot, uint64_t code, uint64_t place);
 
 #ifdef __cplusplus
 }
