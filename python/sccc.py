@@ -9,7 +9,7 @@ Data. A bit is a byte, 0 or 1, a label a byte below 2^m, an octet of a transfer 
 the buffer protocol whose elements are one byte and lie in one piece: bytes, bytearray, memoryview, array.array, a numpy array of
 uint8 or bool. Nothing is copied. A call that writes takes the memory for it as out= (and work=), or allocates it, and returns a
 memoryview of what it wrote, which numpy.asarray takes as it is. Cuts are integers, in a list or anything else that yields them. Job
-lines are lent as bytes are, and come back as bytes.
+lines are lent as bytes are, and come back as bytes. Coordinates of points are floats.
 
 Refusals. A call makes the checks that include/sccc.h lists with it, in that order, and raises ScccError with the number of the
 first one that fails; memory lent to it is then as it was. Numbers of any size may be given: 257 is not format 1, nor is
@@ -42,9 +42,10 @@ else:
 __all__ = [
     "FORMATS", "SYMBOLS", "SECTIONS", "FRAME_LABELS", "FRAME_SLOTS", "PILOT_FRAME_SLOTS", "HEADER_SLOTS", "SUBSECTION_LABELS",
     "SUBSECTION_SLOTS", "PILOT", "SEGMENTS", "LEAST_TRANSFER_FRAME", "MOST_TRANSFER_FRAME", "WAITING_MEMORY", "MAX_I",
-    "LONGEST_OLD_LINE", "LONGEST_LINE", "LAST_CODE", "MEANINGS", "ScccError", "FormatInfo", "Step", "Run", "SegmentStates", "Segments",
-    "Comparison", "Look", "Job", "SharedEncoder", "Slicer", "load", "format_info", "step", "run", "interleave", "encode",
-    "encode_segments", "labels", "frame", "section", "compare", "job", "lengthen", "shorten",
+    "LONGEST_OLD_LINE", "LONGEST_LINE", "LAST_CODE", "FIRST_POINT_FORMAT", "POINTS", "POINT_PLACES", "MEANINGS", "ScccError",
+    "FormatInfo", "Step", "Run", "SegmentStates", "Segments", "Comparison", "Look", "Job", "Point", "SharedEncoder", "Slicer",
+    "load", "format_info", "step", "run", "interleave", "encode", "encode_segments", "labels", "frame", "section", "compare",
+    "job", "lengthen", "shorten", "point",
 ]
 
 #: The formats are 1 to 37.
@@ -79,12 +80,18 @@ LONGEST_OLD_LINE = 8
 LONGEST_LINE = 19
 #: Code numbers are 0 to 262,142.
 LAST_CODE = 262142
+#: Points are of formats 33 to 37, one for each label.
+FIRST_POINT_FORMAT = 33
+POINTS = 256
+#: Places of symbols are below this.
+POINT_PLACES = 133760
 
 #: What it means that the check of a number failed.
 MEANINGS = {
-    1: "the format is not 1 to 37",
+    1: "the format is not 1 to 37, or for a point not 33 to 37",
     2: "an input list is not exactly as long as the call takes, or more than 600,000 bits are said to wait",
-    3: "a bit is not 0 or 1, a label not below 2^m, a state not 0 to 3, or an entry of a memory not its position's",
+    3: "a bit is not 0 or 1, a label not below 2^m, a state not 0 to 3, an entry of a memory not its position's, "
+    "or a point's slot not 0 to 255",
     4: "the workspace or a slicer's memory is too short",
     5: "the output is too short",
     6: "the job line is not well formed, or of the other form",
@@ -192,6 +199,13 @@ class Job(NamedTuple):
     pilots: int
     #: the code number, None where the job is unscrambled
     code: Optional[int]
+
+
+class Point(NamedTuple):
+    """The coordinates of a point: in-phase and quadrature."""
+
+    i: float
+    q: float
 
 
 def load(path: Union[str, "os.PathLike[str]", None] = None) -> None:
@@ -348,6 +362,19 @@ def shorten(line: Buffer) -> bytes:
     Checks: 6, it is a job line of the longer form; 1; 7; 14; 16; 17, pilots is 0 and the job unscrambled.
     """
     return _moved(_loaded().sccc_job_shorten, line, LONGEST_OLD_LINE)
+
+
+def point(format: SupportsIndex, slot: SupportsIndex, code: Optional[SupportsIndex], place: SupportsIndex) -> Point:
+    """The point of a symbol of formats 33 to 37 (004, table 5-2), turned as the physical-layer randomizer turns the symbol at the
+    place (annex E), or not turned where code is None. A place counts the symbols behind a frame's header, pilots among them: slot s
+    has place s - 320.
+
+    Checks: 1, the format is 33 to 37; 3, the slot is at most 255; 16, the code number is at most 262,142; 8, the place is below
+    133,760.
+    """
+    r = _loaded().sccc_point(_number(format), _number(slot), _code(code), _number(place))
+    _pass(r.number)
+    return Point(r.i, r.q)
 
 
 class SharedEncoder:
@@ -536,7 +563,11 @@ class _LineAnswer(ctypes.Structure):
     _fields_ = [(name, ctypes.c_uint64) for name in ("number", "length")]
 
 
-# The code number of a job that is unscrambled.
+class _PointAnswer(ctypes.Structure):
+    _fields_ = [("number", ctypes.c_uint64), ("i", ctypes.c_double), ("q", ctypes.c_double)]
+
+
+# The code number of what is unscrambled.
 _UNSCRAMBLED = 2**64 - 1
 
 _NUMBER = [ctypes.c_uint64]
@@ -561,6 +592,7 @@ _PROTOTYPES = {
     "sccc_job": (_JobAnswer, _SLICE),
     "sccc_job_lengthen": (_LineAnswer, _SLICE + _SLICE),
     "sccc_job_shorten": (_LineAnswer, _SLICE + _SLICE),
+    "sccc_point": (_PointAnswer, _NUMBER + _NUMBER + _NUMBER + _NUMBER),
 }
 _BUILT = os.path.join(os.path.dirname(os.path.dirname(os.path.abspath(__file__))), "build", "libsccc.so")
 _library: Optional[ctypes.CDLL] = None
@@ -583,6 +615,11 @@ def _number(value: SupportsIndex) -> int:
     number itself; ctypes would cut it to another."""
     number = operator.index(value)
     return number if 0 <= number < 2**64 else 2**64 - 1
+
+
+def _code(code: Optional[SupportsIndex]) -> int:
+    """A code number, or the one that stands for none. A number that is that one by chance becomes another that is too large."""
+    return _UNSCRAMBLED if code is None else min(_number(code), _UNSCRAMBLED - 1)
 
 
 def _encode_views(sizes: _FormatInfo, block: Buffer, work: Optional[Buffer], out: Optional[Buffer]) -> List[memoryview]:

@@ -6,12 +6,14 @@ import os
 import pickle
 import re
 import shutil
+import struct
 import subprocess
 import sys
 import tempfile
 import unittest
 from array import array
 from concurrent.futures import ThreadPoolExecutor
+from functools import lru_cache
 from itertools import islice, product
 
 import numpy
@@ -77,6 +79,32 @@ def is_bch_codeword(bits):
         if rest >> 52:
             rest ^= generator
     return rest == 0
+
+
+PERIOD = 2**18 - 1
+
+
+@lru_cache(maxsize=None)
+def scrambling_sequences():
+    """Annex E's x and y, a period of each."""
+    x, y = [1] + [0] * 17, [1] * 18
+    for i in range(PERIOD - 18):
+        x.append(x[i + 7] ^ x[i])
+        y.append(y[i + 10] ^ y[i + 7] ^ y[i + 5] ^ y[i])
+    return x, y
+
+
+def quarter_turns(code, place):
+    """Annex E's R."""
+    x, y = scrambling_sequences()
+    first, second = (x[(i + code) % PERIOD] ^ y[i] for i in (place, (place + 131072) % PERIOD))
+    return 2 * second + first
+
+
+def turned(point, turns):
+    """By annex E's table."""
+    i, q = point
+    return ((i, q), (-q, i), (-i, -q), (q, -i))[turns]
 
 
 def filled(length):
@@ -929,6 +957,79 @@ class JobLines(Case):
                 self.assertRaises(TypeError, call, line)
 
 
+class Points(Case):
+    formats = range(33, sccc.FORMATS + 1)
+    #: points of document 004's table 5-2; those of labels 31, 63, 95 and 127 are garbled in our copy
+    table = {
+        **{0: (-0.9412, -0.9412), 1: (-0.477, -1.2426), 15: (0.0627, 0.0627), 31: (0.2571, 0.0689), 37: (-0.0695, -0.6172)},
+        **{47: (0.6172, 0.0695), 63: (0.4382, 0.0694), 64: (-1.0344, -0.8376), 95: (0.1882, 0.1882), 96: (-0.5968, -0.9872)},
+        **{127: (0.3953, 0.2014), 128: (-1.186, -0.6043), 160: (-0.5647, -0.5647), 192: (-1.1163, -0.7249)},
+        **{224: (-0.585, -0.7814), 229: (-0.0689, -0.2571), 255: (0.3137, 0.3137)},
+    }
+
+    def test_table(self):
+        for label, due in self.table.items():
+            for f in self.formats:
+                for place in (0, 131072, 133759):
+                    self.assertEqual(sccc.point(f, label, None, place), due)
+        point = sccc.point(33, 47, None, 0)
+        self.assertEqual((type(point), type(point.i), point.i, point.q), (sccc.Point, float, 0.6172, 0.0695))
+
+    def test_rings(self):
+        """Document 02's rule, in whole ten-thousandths: each point on one of eight rings, and the rings full."""
+        rings = []
+        for label in range(sccc.POINTS):
+            point = sccc.point(37, label, None, 0)
+            x, y = (round(10000 * coordinate) for coordinate in point)
+            self.assertEqual(point, (x / 10000, y / 10000))
+            off = {k: abs(127 * (x * x + y * y) - (2 * k - 1) ** 2 * 10**8) for k in range(1, 9)}
+            rings += [k for k in off if off[k] <= 127 * (abs(x) + abs(y) + 1)]
+        self.assertEqual(len(rings), sccc.POINTS)
+        self.assertEqual([rings.count(k) for k in range(1, 9)], [4, 12, 20, 28, 36, 44, 52, 60])
+
+    def test_turns(self):
+        places = (0, 1, 17, 18, 131070, 131071, 131072, 133439, 133759)
+        for code, place in product((0, 1, 9, 131071, 131072, 262141, sccc.LAST_CODE), places):
+            turns = quarter_turns(code, place)
+            for label, due in self.table.items():
+                self.assertEqual(sccc.point(33, label, code, place), turned(due, turns))
+        self.assertEqual({quarter_turns(0, place) for place in range(100)}, {0, 1, 2, 3})
+        for place in range(100):
+            self.assertEqual(sccc.point(35, 185, 0, place), turned((-0.2082, 1.3147), quarter_turns(0, place)))
+
+    def test_a_jobs_code_number(self):
+        for line in (b"37,2,1,262142\n", b"37,2,1,-\n"):
+            job = sccc.job(line)
+            turns = 0 if job.code is None else quarter_turns(job.code, 5)
+            self.assertEqual(sccc.point(job.format, 47, job.code, 5), turned((0.6172, 0.0695), turns))
+
+    def test_refusals(self):
+        """What comes after the check that fails fails too, and then does not."""
+        for f in (*NOT_FORMATS, 1, 13, 27, 28, 32):
+            self.assertRefused(1, sccc.point, f, 256, 262143, 133760)
+            self.assertRefused(1, sccc.point, f, 0, None, 0)
+        for slot in (257, 258, 65535, 65536, *NOT_SMALL):
+            self.assertRefused(3, sccc.point, 33, slot, 262143, 133760)
+            self.assertRefused(3, sccc.point, 37, slot, None, 0)
+        for code in (262143, 2**18, 2**18 + 1, 2**32, 2**64 - 2, 2**64 - 1, 2**64, -1, -(2**64)):
+            self.assertRefused(16, sccc.point, 33, 255, code, 133760)
+            self.assertRefused(16, sccc.point, 37, 0, code, 0)
+        for place, code in product((133760, 133761, 262143, 2**32, 2**64 - 1, 2**64, -1), (None, 0, sccc.LAST_CODE)):
+            self.assertRefused(8, sccc.point, 33, 255, code, place)
+
+    def test_refused_coordinates(self):
+        """Both are +0.0, of which Python sees nothing elsewhere."""
+        for number, *arguments in ((1, 32, 0, 0, 0), (3, 33, 256, 0, 0), (16, 33, 0, 262143, 0), (8, 33, 0, 0, 133760)):
+            r = sccc._loaded().sccc_point(*arguments)
+            self.assertEqual((r.number, struct.pack("dd", r.i, r.q)), (number, bytes(16)))
+
+    def test_a_number_is_an_integer(self):
+        self.assertEqual(sccc.point(numpy.uint8(33), numpy.uint16(47), None, numpy.int64(0)), (0.6172, 0.0695))
+        self.assertEqual(sccc.point(33, 47, numpy.uint32(0), True), sccc.point(33, 47, 0, 1))
+        for arguments in ((33.0, 0, 0, 0), (33, "0", 0, 0), (33, None, 0, 0), (33, 0, "-", 0), (33, 0, 1.0, 0), (33, 0, 0, None)):
+            self.assertRaises(TypeError, sccc.point, *arguments)
+
+
 class Memory(Case):
     block = seeded(5, 5758)
 
@@ -1016,6 +1117,7 @@ class Library(Case):
             self.assertEqual(getattr(sccc, name), int(defined[name]), name)
         self.assertIn("MAX_I", names)
         self.assertIn("LAST_CODE", names)
+        self.assertIn("POINT_PLACES", names)
         for name in ("BAD_LINE", "BAD_PATTERN", "BAD_PILOTS", "SHORT_MEMORY", "BAD_CODE", "NO_WAY_BACK"):
             self.assertIn(int(defined[name]), sccc.MEANINGS)
 
