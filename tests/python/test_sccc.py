@@ -1,6 +1,7 @@
 """python/sccc.py over build/libsccc.so, with plain memory and with numpy's arrays. Run by a Python that has numpy."""
 import csv
 import ctypes
+import math
 import mmap
 import os
 import pickle
@@ -15,6 +16,7 @@ from array import array
 from concurrent.futures import ThreadPoolExecutor
 from functools import lru_cache
 from itertools import islice, product
+from xml.etree import ElementTree
 
 import numpy
 
@@ -1028,6 +1030,45 @@ class Points(Case):
         self.assertEqual(sccc.point(33, 47, numpy.uint32(0), True), sccc.point(33, 47, 0, 1))
         for arguments in ((33.0, 0, 0, 0), (33, "0", 0, 0), (33, None, 0, 0), (33, 0, "-", 0), (33, 0, 1.0, 0), (33, 0, 0, None)):
             self.assertRaises(TypeError, sccc.point, *arguments)
+
+
+class Constellation(Case):
+    @classmethod
+    def setUpClass(cls):
+        cls.text = sccc.constellation()
+        cls.groups = {group.get("id"): list(group) for group in ElementTree.fromstring(cls.text).findall("{*}g")}
+
+    def positions(self, name, across, down):
+        """Of each part of a group, from the middle of the plot and in its unit."""
+        return [((float(part.get(across)) - 730) / 420, (710 - float(part.get(down))) / 420) for part in self.groups[name]]
+
+    def test_it_is_the_file(self):
+        with open(os.path.join(ROOT, "docs", "constellation.svg"), encoding="utf8", newline="") as file:
+            self.assertTrue(file.read() == self.text, "docs/constellation.svg is not what constellation() gives")
+
+    def test_dots_are_the_points(self):
+        dots = self.positions("dots", "cx", "cy")
+        self.assertEqual(len(dots), sccc.POINTS)
+        for label, dot in enumerate(dots):
+            for drawn, due in zip(dot, sccc.point(33, label, None, 0)):
+                self.assertAlmostEqual(drawn, due, places=9)
+
+    def test_labels_are_beside_their_dots(self):
+        self.assertEqual([text.text for text in self.groups["labels"]], [f"{label:02X}" for label in range(sccc.POINTS)])
+        dots = self.positions("dots", "cx", "cy")
+        for label, text in enumerate(self.positions("labels", "x", "y")):
+            self.assertEqual(min(range(sccc.POINTS), key=lambda dot: math.dist(text, dots[dot])), label)
+
+    def test_rings(self):
+        """Through the dots, but for the table's rounding."""
+        self.assertEqual({ring.tag for ring in self.groups["rings"]}, {"{http://www.w3.org/2000/svg}circle"})
+        radii = [float(ring.get("r")) / 420 for ring in self.groups["rings"]]
+        self.assertEqual(len(radii), 8)
+        for dot in self.positions("dots", "cx", "cy"):
+            self.assertLess(min(abs(radius - math.hypot(*dot)) for radius in radii), 0.0001)
+
+    def test_axes_are_named(self):
+        self.assertEqual([text.text for text in self.groups["numbers"]][:2], ["in-phase", "quadrature"])
 
 
 class Memory(Case):
