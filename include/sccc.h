@@ -21,7 +21,7 @@
  *           write if the pointer is not to const. No buffer that a call writes overlaps another
  *           buffer of the same call. Input is unchanged, and so is output past the stated length.
  *           Where a length is 0 nothing is read or written, and the pointer may be null. A buffer
- *           of uint16_t is aligned to 2 bytes.
+ *           of uint16_t is aligned to 2 bytes, one of double to 8.
  *
  * Threads   The library has no variables, allocates nothing and reads or writes nothing but the
  *           buffers. Calls may run in several threads at once, as long as no other thread writes
@@ -543,6 +543,26 @@ sccc_line_answer sccc_job_shorten(const uint8_t *line, size_t line_len, uint8_t 
  * Refusal   number is the check's, and i and q are +0.0.
  */
 sccc_point_answer sccc_point(uint64_t format, uint64_t slot, uint64_t code, uint64_t place);
+
+/*
+ * sccc_points: the points of symbols in a row.
+ *
+ * Of a frame without pilots the slots behind the header may go into one call, at place 0. A pilot
+ * has no point, so with pilots a call takes at most the 540 labels between two lots of them.
+ *
+ * Computes  the coordinates that sccc_point gives for each element of slots: for the first at the
+ *           place, and for each other one place further on than for the one before it.
+ * Checks    1   the format is 33 to 37
+ *           3   each element of slots is at most 255
+ *           16  the code number is at most 262,142, or there is none
+ *           8   place + slots_len is at most 133,760, so each symbol's place is below that
+ *           5   out_len is at least 2 * slots_len
+ * Success   The answer is 0. The first 2 * slots_len numbers of out are the first symbol's i and q,
+ *           the second's and so on, and those after them as they were.
+ * Refusal   The answer is the check's number. out is as it was.
+ */
+uint8_t sccc_points(uint64_t format, const uint16_t *slots, size_t slots_len, uint64_t code,
+                    uint64_t place, double *out, size_t out_len);
 
 #ifdef __cplusplus
 }
