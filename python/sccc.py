@@ -46,7 +46,7 @@ __all__ = [
     "LONGEST_OLD_LINE", "LONGEST_LINE", "LAST_CODE", "FIRST_POINT_FORMAT", "POINTS", "POINT_PLACES", "MEANINGS", "ScccError",
     "FormatInfo", "Step", "Run", "SegmentStates", "Segments", "Comparison", "Look", "Job", "Point", "SharedEncoder", "Slicer",
     "load", "format_info", "step", "run", "interleave", "encode", "encode_segments", "labels", "frame", "section", "compare",
-    "job", "lengthen", "shorten", "point", "constellation",
+    "job", "lengthen", "shorten", "point", "points", "constellation",
 ]
 
 #: The formats are 1 to 37.
@@ -378,6 +378,25 @@ def point(format: SupportsIndex, slot: SupportsIndex, code: Optional[SupportsInd
     return Point(r.i, r.q)
 
 
+def points(
+    format: SupportsIndex, slots: Buffer, code: Optional[SupportsIndex], place: SupportsIndex, *, out: Optional[Buffer] = None
+) -> memoryview:
+    """The points of symbols in a row, the first at the place: of out the first two numbers for each slot, in-phase and quadrature.
+    The slots are of 16 bits, as a frame's, and the elements of out doubles (array.array of type d, numpy's float64).
+
+    Of a frame without pilots slots[320:] may go into one call, at place 0. A pilot has no point, so with pilots a call takes at most
+    the 540 labels between two lots of them.
+
+    Checks: 1, the format is 33 to 37; 3, each slot is at most 255; 16, the code number is at most 262,142; 8, place and number of
+    slots add up to at most 133,760; 5, out has at least two numbers for each slot.
+    """
+    given = _view("slots", slots, kind="H")
+    result = _view("out", array("d", bytes(16 * len(given))) if out is None else out, kind="d", writable=True)
+    lent = _lent(given, result, written=1)
+    _pass(_loaded().sccc_points(_number(format), *lent[:2], _code(code), _number(place), *lent[2:]))
+    return result[: 2 * len(given)]
+
+
 def constellation() -> str:
     """A drawing of table 5-2 to scale, as the text of an SVG file: the points that are not turned, each with its label, on their
     eight rings. It is kept as docs/constellation.svg."""
@@ -602,6 +621,7 @@ _PROTOTYPES = {
     "sccc_job_lengthen": (_LineAnswer, _SLICE + _SLICE),
     "sccc_job_shorten": (_LineAnswer, _SLICE + _SLICE),
     "sccc_point": (_PointAnswer, _NUMBER + _NUMBER + _NUMBER + _NUMBER),
+    "sccc_points": (ctypes.c_uint8, _NUMBER + _SLICE + _NUMBER + _NUMBER + _SLICE),
 }
 _BUILT = os.path.join(os.path.dirname(os.path.dirname(os.path.abspath(__file__))), "build", "libsccc.so")
 _library: Optional[ctypes.CDLL] = None
@@ -659,17 +679,18 @@ def _moved(move: Any, line: Buffer, longest: int) -> bytes:
     return bytes(result[: r.length])
 
 
-_KINDS = {"B": ("B", "b", "c", "?"), "H": ("H",)}
+_KINDS = {"B": ("B", "b", "c", "?"), "H": ("H",), "d": ("d",)}
+_DUE = {"B": "bytes", "H": "16-bit slots (H)", "d": "doubles (d)"}
 
 
 def _view(name: str, owner: Buffer, kind: str = "B", writable: bool = False) -> memoryview:
-    """The memory of an object as a list of bytes (B) or slots (H), not copied."""
+    """The memory of an object as a list of bytes (B), slots (H) or doubles (d), not copied."""
     try:
         view = memoryview(owner)
     except TypeError:
         raise TypeError(f"{name}: {type(owner).__name__} lends no memory; bytes, bytearray or an array do") from None
     if view.format.lstrip("@=<") not in _KINDS[kind]:
-        raise TypeError(f"{name}: elements of type {view.format!r}, and {'bytes' if kind == 'B' else '16-bit slots (H)'} are due")
+        raise TypeError(f"{name}: elements of type {view.format!r}, and {_DUE[kind]} are due")
     if not view.c_contiguous:
         raise TypeError(f"{name}: the elements do not lie in one piece")
     if writable and view.readonly:
@@ -685,7 +706,7 @@ def _lent(*views: memoryview, written: int = 0) -> List[int]:
     arguments = []
     for i, (start, view) in enumerate(zip(starts, views)):
         if start % view.itemsize != 0:
-            raise ValueError("16-bit slots are not aligned to 2 bytes")
+            raise ValueError(f"elements of {view.itemsize} bytes are not aligned to as many")
         for j in range(len(views) - written, len(views)):
             if i != j and start < starts[j] + views[j].nbytes and starts[j] < start + view.nbytes:
                 raise ValueError("memory that the call writes overlaps other memory lent to it")

@@ -1032,6 +1032,103 @@ class Points(Case):
             self.assertRaises(TypeError, sccc.point, *arguments)
 
 
+class PointsInARow(Case):
+    slots = array("H", (i * i // 7 % 256 for i in range(540)))
+
+    def one_by_one(self, slots, code, place):
+        return array("d", (coordinate for p, slot in enumerate(slots, place) for coordinate in sccc.point(33, slot, code, p)))
+
+    def test_they_are_the_points(self):
+        for code, place in product((None, 0, sccc.LAST_CODE), (0, 556, 130900, 133220)):
+            due = self.one_by_one(self.slots, code, place)
+            for f in range(33, sccc.FORMATS + 1):
+                points = sccc.points(f, self.slots, code, place)
+                self.assertEqual((points.format, bytes(points)), ("d", bytes(due)))
+
+    def test_frames(self):
+        """Whole without pilots; with them the labels between."""
+        labels = bytes(i * i // 7 % 256 for i in range(sccc.FRAME_LABELS))
+        bare, slots = (sccc.frame(37, pilots, labels) for pilots in (0, 1))
+        self.assertEqual(bytes(sccc.points(37, bare[320:], 5, 0)), bytes(self.one_by_one(labels, 5, 0)))
+        for start in (320, 876, 133204):
+            run = slots[start : start + 540]
+            self.assertEqual(bytes(sccc.points(37, run, 5, start - 320)), bytes(self.one_by_one(run, 5, start - 320)))
+        self.assertRefused(3, sccc.points, 37, slots[320:861], 5, 0)
+
+    def test_they_write_no_more_than_they_say(self):
+        before = array("d", range(1000, 2090))
+        for count in (0, 1, 539, 540):
+            slots, out = self.slots[:count], before[:]
+            result = sccc.points(33, slots, 1, 17, out=out)
+            self.assertIs(result.obj, out)
+            self.assertEqual(result, self.one_by_one(slots, 1, 17))
+            self.assertEqual(out, self.one_by_one(slots, 1, 17) + before[2 * count :])
+            self.assertEqual(slots, self.slots[:count])
+
+    def test_refusals(self):
+        """What comes after the check that fails fails too, and then does not."""
+        good, bad = self.slots, self.slots[:-1] + array("H", [256])
+        for number, f, slots, code, place, room in (
+            *((1, f, bad, 262143, 133760, 0) for f in (*NOT_FORMATS, 1, 28, 32)),
+            (1, 32, good, None, 0, 1080),
+            (3, 33, bad, 262143, 133760, 0),
+            (3, 37, bad, None, 0, 1080),
+            (3, 37, array("H", [65535]), None, 0, 2),
+            (16, 33, good, 262143, 133760, 0),
+            (16, 33, good, 2**64 - 1, 0, 1080),
+            (16, 33, good, -1, 0, 1080),
+            (16, 33, good[:0], 262143, 133761, 0),
+            (8, 33, good, 0, 133760, 0),
+            (8, 33, good, None, 133221, 1080),
+            (8, 33, good, None, 133221, 0),
+            *((8, 37, good, 0, place, 1080) for place in (2**32, 2**64 - 540, 2**64 - 1, 2**64, -1)),
+            *((8, 37, good[:0], 0, place, 0) for place in (133761, 2**64 - 1, -1)),
+            (5, 33, good, 0, 133220, 0),
+            (5, 33, good, 0, 0, 1079),
+            (5, 33, good, None, 0, 540),
+            (5, 33, good[:1], 0, 0, 1),
+        ):
+            out = array("d", [7]) * room
+            self.assertRefused(number, sccc.points, f, slots, code, place, out=out)
+            self.assertEqual(out, array("d", [7]) * room)
+        self.assertEqual(len(sccc.points(33, good[:0], 0, 133760)), 0)
+        self.assertEqual(len(sccc.points(33, good, 0, 133220)), 1080)
+
+    def test_memory(self):
+        due = sccc.points(33, self.slots, 0, 0)
+        out = numpy.zeros((540, 2))
+        result = sccc.points(33, numpy.array(self.slots, dtype=numpy.uint16), 0, 0, out=out)
+        self.assertTrue(numpy.shares_memory(numpy.asarray(result), out))
+        self.assertTrue((out.ravel() == numpy.asarray(due)).all())
+        self.assertEqual(sccc.points(33, memoryview(self.slots), 0, 0, out=(ctypes.c_double * 1080)()), due)
+        read_only = numpy.zeros(1080)
+        read_only.flags.writeable = False
+        for slots, out in (
+            (bytes(540), None),
+            ([0] * 540, None),
+            (array("h", [0]), None),
+            (memoryview(self.slots)[::2], None),
+            (self.slots, bytearray(8 * 1080)),
+            (self.slots, [0.0] * 1080),
+            (self.slots, array("f", [0] * 1080)),
+            (self.slots, numpy.zeros(1080, dtype=">f8")),
+            (self.slots, numpy.zeros(2160)[::2]),
+            (self.slots, read_only),
+        ):
+            self.assertRaises(TypeError, sccc.points, 33, slots, 0, 0, out=out)
+        for arguments in ((33.0, self.slots, 0, 0), (33, self.slots, "-", 0), (33, self.slots, 0, None)):
+            self.assertRaises(TypeError, sccc.points, *arguments)
+
+    def test_overlapping_and_unaligned_memory(self):
+        memory = memoryview(bytearray(1088))
+        self.assertRaises(ValueError, sccc.points, 33, memory[:34].cast("H"), 0, 0, out=memory[32:].cast("d"))
+        for shift in (1, 2, 4):
+            self.assertRaises(ValueError, sccc.points, 33, self.slots[:17], 0, 0, out=memory[shift : 1080 + shift].cast("d"))
+        self.assertEqual(bytes(memory), bytes(1088))
+        sccc.points(33, memory[:32].cast("H"), 0, 0, out=memory[32:].cast("d"))
+        self.assertEqual(bytes(memory[:32]), bytes(32))
+
+
 class Constellation(Case):
     @classmethod
     def setUpClass(cls):
