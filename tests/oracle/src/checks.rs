@@ -9,9 +9,10 @@ use crate::segments::MOST_CUTS;
 use crate::slicer::{Slicer, MEMORY as WAITING_MEMORY};
 use crate::tables::{self, SECTION};
 use crate::transfer::{LEAST_OCTETS, MOST_OCTETS};
+use crate::waveform;
 
 pub const PASSED: u64 = 0;
-/// The format is not 1 to 37.
+/// The format is not 1 to 37, or of the waveform's calls not 33 to 37.
 pub const FORMAT: u64 = 1;
 /// An input list is not exactly as long as the call takes, or more bits are
 /// said to wait than a slicer's memory holds.
@@ -290,6 +291,17 @@ pub fn shorten(input: &[u8], out_len: usize) -> u64 {
         (number, number == PASSED),
         (NO_WAY_BACK, line.added == Some(OF_OLD)),
         (OUTPUT, out_len >= line.shortened().text().len()),
+    ])
+}
+
+/// The point of a slot: a label of eight bits, a code number if there is one, and a
+/// place where a frame can have a symbol.
+pub fn point(format: u64, slot: u64, code: Option<u64>, place: u64) -> u64 {
+    first_failed(&[
+        (FORMAT, waveform::FORMATS.contains(&format)),
+        (ELEMENT, slot <= u8::MAX.into()),
+        (CODE, code.unwrap_or(0) <= LAST_CODE),
+        (POSITION, place < waveform::PLACES),
     ])
 }
 
@@ -688,5 +700,27 @@ mod tests {
         ] {
             assert_eq!(shorten(line.as_bytes(), room), number, "{line:?}");
         }
+    }
+
+    #[test]
+    fn point_asks_1_3_16_8() {
+        for format in [0, 1, 27, 32, 38, 33 + 256, 1 << 32 | 33, u64::MAX] {
+            assert_eq!(point(format, 256, Some(262_143), 133_760), FORMAT);
+            assert_eq!(point(format, 0, None, 0), FORMAT);
+        }
+        for slot in [256, 257, 258, 65_535, 1 << 16, 1 << 32, u64::MAX] {
+            assert_eq!(point(33, slot, Some(262_143), 133_760), ELEMENT);
+            assert_eq!(point(37, slot, None, 0), ELEMENT);
+        }
+        for code in [262_143, 1 << 32, u64::MAX] {
+            assert_eq!(point(33, 255, Some(code), 133_760), CODE);
+            assert_eq!(point(37, 0, Some(code), 0), CODE);
+        }
+        for place in [133_760, 133_761, 1 << 32, u64::MAX] {
+            assert_eq!(point(33, 255, Some(262_142), place), POSITION);
+            assert_eq!(point(37, 0, None, place), POSITION);
+        }
+        assert_eq!(point(33, 0, None, 0), PASSED);
+        assert_eq!(point(37, 255, Some(262_142), 133_759), PASSED);
     }
 }

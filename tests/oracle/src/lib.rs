@@ -28,4 +28,5 @@ pub mod slicer;
 pub mod tables;
 pub mod transfer;
 pub mod trellis;
+pub mod waveform;
 pub mod wrong_rows;
