@@ -2,6 +2,7 @@
 //! 01 print, and what they say must hold.
 
 mod extension;
+mod waveform;
 
 use crate::annex_c::{AnnexC, Interleaver};
 use crate::annex_d;
@@ -90,6 +91,12 @@ pub fn self_check(annex_c: &AnnexC) -> Report {
     header(&mut report);
     extension::descriptors(&mut report);
     pilots(&mut report);
+    waveform::table(&mut report);
+    waveform::rings(&mut report);
+    waveform::circumferences(&mut report);
+    waveform::subsets(&mut report);
+    waveform::sequences(&mut report);
+    waveform::turns(&mut report);
     annex_c_tables(&mut report, annex_c);
     if report.failed {
         // Broken tables may send the stages below to positions that are not there.
