@@ -128,7 +128,7 @@ pub struct LookAnswer {
     pub bits: u64,
 }
 
-/// The code number of a job that is unscrambled.
+/// Stands for the code number of what is unscrambled.
 pub const UNSCRAMBLED: u64 = u64::MAX;
 
 /// What `sccc_job` gives; an old line has pilots 0 and is unscrambled.
@@ -148,6 +148,15 @@ pub struct JobAnswer {
 pub struct LineAnswer {
     pub number: u64,
     pub length: u64,
+}
+
+/// What `sccc_point` gives.
+#[repr(C)]
+#[derive(Clone, Copy, Debug, PartialEq)]
+pub struct PointAnswer {
+    pub number: u64,
+    pub i: f64,
+    pub q: f64,
 }
 
 extern "C" {
@@ -248,6 +257,7 @@ extern "C" {
         out: *mut u8,
         out_len: usize,
     ) -> LineAnswer;
+    fn sccc_point(format: u64, slot: u64, code: u64, place: u64) -> PointAnswer;
 }
 
 fn pointer<T>(list: &[T]) -> *const T {
@@ -451,4 +461,9 @@ pub fn job_lengthen(line: &[u8], out: &mut [u8]) -> LineAnswer {
 pub fn job_shorten(line: &[u8], out: &mut [u8]) -> LineAnswer {
     // SAFETY: as in encode.
     unsafe { sccc_job_shorten(pointer(line), line.len(), pointer_mut(out), out.len()) }
+}
+
+pub fn point(format: u64, slot: u64, code: u64, place: u64) -> PointAnswer {
+    // SAFETY: it takes numbers alone.
+    unsafe { sccc_point(format, slot, code, place) }
 }
