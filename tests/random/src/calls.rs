@@ -6,9 +6,9 @@ use crate::lent::Lent;
 use crate::tally::Met;
 use crate::tally::Outcome::{
     self, Block, Different, Longer, Old, Passed, PilotsOff, PilotsOn, Refused, RefusedFor, Same,
-    Wait,
+    Scrambled, Unscrambled, Wait,
 };
-use crate::{encoding, job_line, shared, slicer};
+use crate::{encoding, job_line, shared, slicer, waveform};
 use interface::{Comparison, FormatInfo, Interleaved, RunAnswer, SectionRange, Stepped};
 use oracle::annex_c::{AnnexC, UpperPosition};
 use oracle::checks::{
@@ -32,7 +32,7 @@ pub struct Call {
     pub compare: fn(&mut Generator, &AnnexC) -> Compared,
 }
 
-pub const CALLS: [Call; 19] = [
+pub const CALLS: [Call; 20] = [
     Call {
         name: "format",
         outcomes: &[Passed, Refused(FORMAT)],
@@ -228,6 +228,19 @@ pub const CALLS: [Call; 19] = [
         ],
         weight: 6,
         compare: job_line::shorten_call,
+    },
+    Call {
+        name: "point",
+        outcomes: &[
+            Unscrambled,
+            Scrambled,
+            Refused(FORMAT),
+            Refused(ELEMENT),
+            Refused(CODE),
+            Refused(POSITION),
+        ],
+        weight: 4,
+        compare: waveform::point_call,
     },
 ];
 

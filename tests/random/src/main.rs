@@ -12,6 +12,7 @@ mod shared;
 mod slicer;
 mod tally;
 mod watch;
+mod waveform;
 
 use cases::Cases;
 use oracle::annex_c;

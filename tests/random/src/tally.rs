@@ -22,6 +22,9 @@ pub enum Outcome {
     /// A job line was read, of the old form or of the longer one.
     Old,
     Longer,
+    /// A point was given, as the table has it or turned by a code number.
+    Unscrambled,
+    Scrambled,
     /// With the number of the check that failed.
     Refused(u64),
     /// The same, and which of two lists failed it; that a frame has no room for its
@@ -50,6 +53,8 @@ impl Display for Outcome {
             Outcome::Wait => write!(f, "wait"),
             Outcome::Old => write!(f, "old"),
             Outcome::Longer => write!(f, "longer"),
+            Outcome::Unscrambled => write!(f, "unscrambled"),
+            Outcome::Scrambled => write!(f, "scrambled"),
             Outcome::Refused(number) => write!(f, "{number}"),
             Outcome::RefusedFor(number, list) => write!(f, "{number} {list}"),
         }
