@@ -1752,6 +1752,180 @@ static void no_lines(void)
     spoilt_line("999,999,999,999999\n");
 }
 
+/* A coordinate's bits, which tell +0.0 from -0.0. */
+static uint64_t bits_of(double coordinate)
+{
+    uint64_t bits;
+    memcpy(&bits, &coordinate, sizeof bits);
+    return bits;
+}
+
+static int point_is(sccc_point_answer r, double i, double q)
+{
+    return r.number == SCCC_PASSED && bits_of(r.i) == bits_of(i) && bits_of(r.q) == bits_of(q);
+}
+
+/* Every format that has points gives the same, in the first column of document 004's table 5-2, in
+ * the last one, and at the labels whose decimal points our copy has lost. */
+static void points_of_table(void)
+{
+    static const struct {
+        uint64_t label;
+        double i, q;
+    } table[] = {
+        {0, -0.9412, -0.9412}, {1, -0.4770, -1.2426},   {15, 0.0627, 0.0627},
+        {30, 0.9736, 0.0696},  {31, 0.2571, 0.0689},    {47, 0.6172, 0.0695},
+        {63, 0.4382, 0.0694},  {95, 0.1882, 0.1882},    {96, -0.5968, -0.9872},
+        {126, 1.1347, 0.2079}, {127, 0.3953, 0.2014},   {128, -1.1860, -0.6043},
+        {159, 0.2052, 0.5863}, {224, -0.5850, -0.7814}, {229, -0.0689, -0.2571},
+        {254, 1.1013, 0.3432}, {255, 0.3137, 0.3137},
+    };
+    static const uint64_t places[] = {0, 1, 131071, SCCC_POINT_PLACES - 1};
+    uint64_t f;
+    size_t j, n;
+    for (f = SCCC_FIRST_POINT_FORMAT; f <= SCCC_FORMATS; f++)
+        for (j = 0; j < LENGTH(table); j++)
+            for (n = 0; n < LENGTH(places); n++)
+                CHECK(point_is(sccc_point(f, table[j].label, SCCC_UNSCRAMBLED, places[n]),
+                               table[j].i, table[j].q));
+}
+
+/* A coordinate as a whole number of ten-thousandths, if it is one. */
+static int64_t ten_thousandths(double coordinate)
+{
+    const int64_t whole = (int64_t)(10000 * coordinate + (coordinate < 0 ? -0.5 : 0.5));
+    CHECK(bits_of((double)whole / 10000) == bits_of(coordinate));
+    return whole;
+}
+
+/* Whether document 02's ring k has a point. */
+static int on_ring(int64_t k, int64_t i, int64_t q)
+{
+    const int64_t off = 127 * (i * i + q * q) - (2 * k - 1) * (2 * k - 1) * 100000000;
+    return llabs(off) <= 127 * (llabs(i) + llabs(q) + 1);
+}
+
+/* Every point lies on a ring, and each ring is full. */
+static void rings(void)
+{
+    int64_t k;
+    uint64_t label, all = 0;
+    for (k = 1; k <= 8; k++) {
+        int64_t count = 0;
+        for (label = 0; label < SCCC_POINTS; label++) {
+            const sccc_point_answer r = sccc_point(37, label, SCCC_UNSCRAMBLED, 0);
+            count += on_ring(k, ten_thousandths(r.i), ten_thousandths(r.q));
+        }
+        CHECK(count == 4 * (2 * k - 1));
+        all += (uint64_t)count;
+    }
+    CHECK(all == SCCC_POINTS);
+}
+
+/* Annex E: the quarter turns that a code number has at a place. */
+static unsigned quarter_turns(uint64_t code, uint64_t place)
+{
+    enum { PERIOD = 262143 };
+    static uint8_t x[PERIOD] = {1}, y[PERIOD];
+    const uint64_t ahead = (place + 131072) % PERIOD;
+    size_t i;
+    if (y[0] == 0) {
+        memset(y, 1, 18);
+        for (i = 0; i + 18 < PERIOD; i++) {
+            x[i + 18] = x[i + 7] ^ x[i];
+            y[i + 18] = y[i + 10] ^ y[i + 7] ^ y[i + 5] ^ y[i];
+        }
+    }
+    return 2u * (x[(ahead + code) % PERIOD] ^ y[ahead]) + (x[(place + code) % PERIOD] ^ y[place]);
+}
+
+/* Whether a label's point at a place is the one without a code number, turned as annex E says. */
+static int turned(uint64_t label, uint64_t code, uint64_t place)
+{
+    const sccc_point_answer plain = sccc_point(33, label, SCCC_UNSCRAMBLED, place);
+    const sccc_point_answer r = sccc_point(33, label, code, place);
+    switch (quarter_turns(code, place)) {
+    case 0:
+        return point_is(r, plain.i, plain.q);
+    case 1:
+        return point_is(r, -plain.q, plain.i);
+    case 2:
+        return point_is(r, -plain.i, -plain.q);
+    default:
+        return point_is(r, plain.q, -plain.i);
+    }
+}
+
+/* All places by some code numbers, and all labels where the turns come from the sequences' ends. */
+static void points_turned(void)
+{
+    static const uint64_t codes[] = {0, 1, 131071, 131072, SCCC_LAST_CODE - 1, SCCC_LAST_CODE};
+    uint64_t label, place;
+    size_t j;
+    for (j = 0; j < LENGTH(codes); j++) {
+        int as_due = 1;
+        for (place = 0; place < SCCC_POINT_PLACES; place++)
+            as_due = as_due && turned((place + j) % SCCC_POINTS, codes[j], place);
+        CHECK(as_due);
+        for (label = 0; label < SCCC_POINTS; label++) {
+            CHECK(turned(label, codes[j], 0));
+            CHECK(turned(label, codes[j], 131070));
+            CHECK(turned(label, codes[j], 131071));
+            CHECK(turned(label, codes[j], SCCC_POINT_PLACES - 1));
+        }
+    }
+    /* by hand: x begins with a one and zeros, y with ones, and the heavier bits with zeros */
+    CHECK(point_is(sccc_point(33, 47, 0, 0), 0.6172, 0.0695));
+    CHECK(point_is(sccc_point(33, 47, 0, 1), -0.0695, 0.6172));
+}
+
+static int point_refused(uint64_t number, uint64_t f, uint64_t slot, uint64_t code, uint64_t place)
+{
+    const sccc_point_answer r = sccc_point(f, slot, code, place);
+    return r.number == number && bits_of(r.i) == 0 && bits_of(r.q) == 0;
+}
+
+static const uint64_t not_point_formats[] = {
+    0, 1, 13, 27, 28, 32, 38, 256, 289, UINT64_C(4294967329), UINT64_MAX};
+static const uint64_t not_labels[] = {256, 258, 65535, 65536, UINT64_C(4294967296), UINT64_MAX};
+static const uint64_t not_codes[] = {262143, 262144, 524288, UINT64_C(4294967296), UINT64_MAX - 1};
+static const uint64_t not_places[] = {133760, 133761, 262143, UINT64_C(4294967296), UINT64_MAX};
+
+/* Each check alone, and with everything behind it failing too. */
+static void points_refused(void)
+{
+    size_t j;
+    for (j = 0; j < LENGTH(not_point_formats); j++) {
+        const uint64_t f = not_point_formats[j];
+        CHECK(point_refused(SCCC_BAD_FORMAT, f, 0, 0, 0));
+        CHECK(point_refused(SCCC_BAD_FORMAT, f, 0, SCCC_UNSCRAMBLED, 0));
+        CHECK(point_refused(SCCC_BAD_FORMAT, f, 256, 262143, 133760));
+    }
+    for (j = 0; j < LENGTH(not_labels); j++) {
+        CHECK(point_refused(SCCC_BAD_ELEMENT, 33, not_labels[j], 0, 0));
+        CHECK(point_refused(SCCC_BAD_ELEMENT, 37, not_labels[j], SCCC_UNSCRAMBLED, 0));
+        CHECK(point_refused(SCCC_BAD_ELEMENT, 35, not_labels[j], 262143, 133760));
+    }
+    for (j = 0; j < LENGTH(not_codes); j++) {
+        CHECK(point_refused(SCCC_BAD_CODE, 33, 255, not_codes[j], 0));
+        CHECK(point_refused(SCCC_BAD_CODE, 37, 0, not_codes[j], 133760));
+    }
+    for (j = 0; j < LENGTH(not_places); j++) {
+        CHECK(point_refused(SCCC_BAD_PLACE, 33, 255, SCCC_LAST_CODE, not_places[j]));
+        CHECK(point_refused(SCCC_BAD_PLACE, 37, 0, SCCC_UNSCRAMBLED, not_places[j]));
+    }
+}
+
+static void point(void)
+{
+    CHECK(sizeof(sccc_point_answer) == 3 * sizeof(uint64_t));
+    CHECK(SCCC_FIRST_POINT_FORMAT == 33 && SCCC_POINTS == 256 && SCCC_POINT_PLACES == 133760);
+    points_of_table();
+    rings();
+    points_turned();
+    points_refused();
+}
+
 /* A thread's own buffers: it encodes one block of its format a few times over. */
 typedef struct {
     uint64_t f;
@@ -1822,6 +1996,7 @@ static void *call_each(void *argument)
     sccc_job(longer, sizeof longer - 1);
     sccc_job_lengthen(old, sizeof old - 1, moved, sizeof moved);
     sccc_job_shorten(longer, sizeof longer - 1, moved, sizeof moved);
+    sccc_point(j->f, 255, SCCC_LAST_CODE, 1);
     return NULL;
 }
 
@@ -1883,6 +2058,7 @@ int main(void)
         {"sccc_job", job_lines},
         {"sccc_job_lengthen and sccc_job_shorten", line_moves},
         {"texts that are no job line", no_lines},
+        {"sccc_point", point},
         {"threads", threads},
         {"stack", stack},
     };
