@@ -13,7 +13,7 @@ use oracle::shared::Memory;
 use oracle::slicer::{self, Slicer};
 use oracle::tables::{self, Format};
 use oracle::{
-    annex_d, checks, framing, job_line, puncturing_search, segments, self_check, trellis,
+    annex_d, checks, framing, job_line, puncturing_search, segments, self_check, trellis, waveform,
     wrong_rows,
 };
 use std::io::Write;
@@ -37,6 +37,8 @@ const USAGE: &str = "usage: oracle [--annex-c PATH] COMMAND
                        then holds, and digests
   lines                what three job lines ask for, and what comes of them
                        moved to either form
+  points               the points of eight symbols in a row, by two code
+                       numbers and unscrambled
   ones FORMAT PATTERN  ones in the codeword of pattern 0, 1 or 2
   annex-d              the spread of each interleaver
   wrong-rows           how often annex D's rule misses a wrong row of annex C
@@ -54,6 +56,18 @@ const CHANNELS: [(char, u64); 5] = [('A', 13), ('B', 28), ('A', 13), ('B', 27), 
 /// An old job line, the longer one that says the same, and one that does not go
 /// back.
 const LINES: [&str; 3] = ["13,0", "13,0,0,-", "37,2,1,262142"];
+
+/// Symbols in a row: format, code number and the first symbol's place. The second
+/// row has the place where the turns' heavier bits begin anew, and the third the
+/// last one.
+const SYMBOLS: [(u64, Option<u64>, u64); 3] = [
+    (33, Some(0), 0),
+    (37, Some(262_142), 131_068),
+    (35, None, 133_752),
+];
+
+/// Their labels.
+const LABELS: [u64; 8] = [0, 37, 74, 111, 148, 185, 222, 255];
 
 fn main() -> ExitCode {
     let arguments: Vec<String> = std::env::args().skip(1).collect();
@@ -92,6 +106,7 @@ fn command(arguments: &[String]) -> Result<(String, ExitCode), String> {
         ["segments"] => parallel(&annex_c()?),
         ["shared"] => shared(&annex_c()?),
         ["lines"] => lines(),
+        ["points"] => points(),
         ["ones", format, pattern] => ones(&annex_c()?, format, pattern)?,
         ["annex-d"] => annex_d::listing(&annex_c()?),
         ["wrong-rows"] => wrong_rows::listing(&annex_c()?),
@@ -248,6 +263,24 @@ fn lines() -> String {
             "\"{line}\",{},{},{},{code},\"{longer}\",\"{old}\"\n",
             job.format, job.pattern, job.pilots,
         ));
+    }
+    text
+}
+
+/// The points of symbols in a row, in decimals and by their bits.
+fn points() -> String {
+    let mut text = String::from("format,code,place,label,i,q,i_bits,q_bits\n");
+    for (format, code, first) in SYMBOLS {
+        let name = code.map_or("-".into(), |code| code.to_string());
+        for (place, label) in (first..).zip(LABELS) {
+            let given = waveform::point(format, label, code, place);
+            let point = given.point.expect("a point");
+            let [I, Q] = point.bits();
+            text.push_str(&format!(
+                "{format},{name},{place},{label},{:.4},{:.4},{I:016X},{Q:016X}\n",
+                point.I, point.Q,
+            ));
+        }
     }
     text
 }
