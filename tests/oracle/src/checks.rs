@@ -305,6 +305,19 @@ pub fn point(format: u64, slot: u64, code: Option<u64>, place: u64) -> u64 {
     ])
 }
 
+/// The points of slots in a row: what a point asks, of each of them, and room for two
+/// coordinates of each. The row may end at the last place, and an empty one behind it.
+pub fn points(format: u64, slots: &[u16], code: Option<u64>, place: u64, out_len: usize) -> u64 {
+    let end = place.checked_add(slots.len() as u64);
+    first_failed(&[
+        (FORMAT, waveform::FORMATS.contains(&format)),
+        (ELEMENT, slots.iter().all(|&slot| slot <= u8::MAX.into())),
+        (CODE, code.unwrap_or(0) <= LAST_CODE),
+        (POSITION, end.is_some_and(|end| end <= waveform::PLACES)),
+        (OUTPUT, out_len >= 2 * slots.len()),
+    ])
+}
+
 #[cfg(test)]
 mod tests {
     use super::*;
@@ -722,5 +735,44 @@ mod tests {
         }
         assert_eq!(point(33, 0, None, 0), PASSED);
         assert_eq!(point(37, 255, Some(262_142), 133_759), PASSED);
+    }
+
+    #[test]
+    fn points_asks_1_3_16_8_5() {
+        let [code, bad_code] = [262_142, 262_143].map(Some);
+        for format in [0, 32, 38, 1 << 32 | 33, u64::MAX] {
+            assert_eq!(points(format, &[256], bad_code, 133_760, 0), FORMAT);
+            assert_eq!(points(format, &[], None, 0, 0), FORMAT);
+        }
+        for slots in [[256, 0], [0, 256], [257, 258], [0, u16::MAX]] {
+            assert_eq!(points(33, &slots, bad_code, 133_760, 0), ELEMENT);
+            assert_eq!(points(37, &slots, None, 0, 4), ELEMENT);
+        }
+        assert_eq!(points(33, &[255, 0], bad_code, 133_760, 0), CODE);
+        for place in [
+            133_759,
+            133_760,
+            1 << 32,
+            u64::MAX - 2,
+            u64::MAX - 1,
+            u64::MAX,
+        ] {
+            assert_eq!(points(33, &[255, 0], code, place, 0), POSITION);
+            assert_eq!(points(37, &[255, 0], None, place, 4), POSITION);
+        }
+        assert_eq!(points(33, &[255, 0], code, 133_758, 3), OUTPUT);
+        assert_eq!(points(33, &[255, 0], code, 133_758, 4), PASSED);
+        assert_eq!(points(37, &[255, 0], None, 0, 5), PASSED);
+    }
+
+    #[test]
+    fn a_row_of_points_ends_at_the_last_place() {
+        let all = vec![255; 133_761];
+        assert_eq!(points(33, &all[1..], None, 0, 267_520), PASSED);
+        assert_eq!(points(33, &all[1..], None, 1, 267_520), POSITION);
+        assert_eq!(points(33, &all, None, 0, 267_522), POSITION);
+        assert_eq!(points(33, &[], None, 133_760, 0), PASSED);
+        assert_eq!(points(33, &[], None, 133_761, 0), POSITION);
+        assert_eq!(points(33, &[], None, u64::MAX, 0), POSITION);
     }
 }

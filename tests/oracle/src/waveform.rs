@@ -206,6 +206,28 @@ pub fn point(format: u64, slot: u64, code: Option<u64>, place: u64) -> Given {
     }
 }
 
+/// What a call for points in a row gives: I and Q of each in turn, and in a refusal
+/// nothing.
+#[derive(Debug, PartialEq)]
+pub struct Row {
+    pub number: u64,
+    pub coordinates: Vec<f64>,
+}
+
+/// The points of slots in a row, the first of them at a place.
+pub fn points(format: u64, slots: &[u16], code: Option<u64>, place: u64, out_len: usize) -> Row {
+    let number = checks::points(format, slots, code, place, out_len);
+    let passing = if number == PASSED { slots } else { &[] };
+    let coordinates = passing.iter().zip(place..).flat_map(|(&slot, place)| {
+        let Point { I, Q } = sent(slot.into(), code, place);
+        [I, Q]
+    });
+    Row {
+        number,
+        coordinates: coordinates.collect(),
+    }
+}
+
 /// A label's point, turned if there is a code number.
 fn sent(label: usize, code: Option<u64>, place: u64) -> Point {
     let point = constellation()[label];
@@ -262,6 +284,18 @@ mod tests {
             let points: Vec<Option<Point>> = points.collect();
             assert!(points.iter().all(|point| *point == points[0]));
         }
+    }
+
+    #[test]
+    fn points_in_a_row_are_those_of_their_places() {
+        let slots = [0x2F, 0x2F, 0xFF];
+        let row = points(33, &slots, Some(0), 0, 6);
+        let due = vec![0.6172, 0.0695, -0.0695, 0.6172, -0.3137, 0.3137];
+        assert_eq!((row.number, row.coordinates), (PASSED, due));
+        let row = points(33, &[], Some(0), PLACES, 0);
+        assert_eq!((row.number, row.coordinates), (PASSED, vec![]));
+        let row = points(33, &slots, Some(0), PLACES - 2, 6);
+        assert_eq!((row.number, row.coordinates), (POSITION, vec![]));
     }
 
     #[test]
