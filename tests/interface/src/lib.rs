@@ -258,6 +258,15 @@ extern "C" {
         out_len: usize,
     ) -> LineAnswer;
     fn sccc_point(format: u64, slot: u64, code: u64, place: u64) -> PointAnswer;
+    fn sccc_points(
+        format: u64,
+        slots: *const u16,
+        slots_len: usize,
+        code: u64,
+        place: u64,
+        out: *mut f64,
+        out_len: usize,
+    ) -> u8;
 }
 
 fn pointer<T>(list: &[T]) -> *const T {
@@ -466,4 +475,21 @@ pub fn job_shorten(line: &[u8], out: &mut [u8]) -> LineAnswer {
 pub fn point(format: u64, slot: u64, code: u64, place: u64) -> PointAnswer {
     // SAFETY: it takes numbers alone.
     unsafe { sccc_point(format, slot, code, place) }
+}
+
+/// The output is handed over by the bits of its numbers, which tell any two apart.
+pub fn points(format: u64, slots: &[u16], code: u64, place: u64, out: &mut [u64]) -> u8 {
+    // SAFETY: as in encode; every u64 is the bits of an f64, which has its size and
+    // needs no more alignment.
+    unsafe {
+        sccc_points(
+            format,
+            pointer(slots),
+            slots.len(),
+            code,
+            place,
+            pointer_mut(out).cast(),
+            out.len(),
+        )
+    }
 }
