@@ -32,7 +32,7 @@ pub struct Call {
     pub compare: fn(&mut Generator, &AnnexC) -> Compared,
 }
 
-pub const CALLS: [Call; 20] = [
+pub const CALLS: [Call; 21] = [
     Call {
         name: "format",
         outcomes: &[Passed, Refused(FORMAT)],
@@ -241,6 +241,20 @@ pub const CALLS: [Call; 20] = [
         ],
         weight: 4,
         compare: waveform::point_call,
+    },
+    Call {
+        name: "points",
+        outcomes: &[
+            Unscrambled,
+            Scrambled,
+            Refused(FORMAT),
+            Refused(ELEMENT),
+            Refused(CODE),
+            Refused(POSITION),
+            Refused(OUTPUT),
+        ],
+        weight: 4,
+        compare: waveform::points_call,
     },
 ];
 

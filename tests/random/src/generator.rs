@@ -53,6 +53,10 @@ impl Generator {
             .map(|pair| u16::from_le_bytes([pair[0], pair[1]]))
             .collect()
     }
+
+    pub fn numbers(&mut self, length: usize) -> Vec<u64> {
+        (0..length).map(|_| self.number()).collect()
+    }
 }
 
 #[cfg(test)]

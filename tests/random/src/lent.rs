@@ -45,6 +45,17 @@ impl Lent<u16> {
     }
 }
 
+impl Lent<u64> {
+    /// Random bits of doubles, which compare as bits even where they are no number.
+    pub fn filled_doubles(generator: &mut Generator, length: usize) -> Lent<u64> {
+        let start = MARGIN + generator.below(4);
+        let left = generator.numbers(start);
+        let list = generator.numbers(length);
+        let right = generator.numbers(MARGIN);
+        Lent::between(left, &list, right)
+    }
+}
+
 impl<T: Copy + PartialEq + Display> Lent<T> {
     fn between(left: Vec<T>, list: &[T], right: Vec<T>) -> Lent<T> {
         let memory = [&left, list, &right].concat();

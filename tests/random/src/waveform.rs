@@ -1,13 +1,14 @@
-//! The waveform: the point of any slot, and runs of all labels.
+//! The waveform: the point of any slot, runs of all labels, and points in a row.
 
 use crate::calls::{compared, equal, met, Compared};
 use crate::draw::{self, Plan};
 use crate::generator::Generator;
+use crate::lent::Lent;
 use crate::tally::Met;
 use crate::tally::Outcome::{self, Refused, Scrambled, Unscrambled};
 use interface::UNSCRAMBLED;
 use oracle::annex_c::AnnexC;
-use oracle::checks::{CODE, ELEMENT, FORMAT, PASSED, POSITION};
+use oracle::checks::{CODE, ELEMENT, FORMAT, OUTPUT, PASSED, POSITION};
 use oracle::job_line::LAST_CODE;
 use oracle::tables::{self, Format};
 use oracle::waveform::{self, Point, FORMATS, PERIOD, PLACES, SHIFT};
@@ -50,20 +51,12 @@ pub fn run(generator: &mut Generator, _: &AnnexC, f: &Format) -> Compared<Vec<Me
 
 /// A call on both sides.
 fn point(f: &Format, format: u64, slot: u64, code: u64, place: u64) -> Compared {
-    let asked = Some(code).filter(|&code| code != UNSCRAMBLED);
-    let expected = waveform::point(format, slot, asked, place);
+    let expected = waveform::point(format, slot, asked(code), place);
     let bits = expected.point.map_or([0; 2], Point::bits);
     let found = interface::point(format, slot, code, place);
-    let mut met = met(expected.number, f);
-    if expected.number == PASSED {
-        met.outcome = match code {
-            UNSCRAMBLED => Unscrambled,
-            _ => Scrambled,
-        };
-    }
     compared(
         format!("format {format}, slot {slot}, code {code}, place {place}"),
-        met,
+        met_points(expected.number, f, code),
         [
             equal(found.number, expected.number),
             equal(
@@ -72,6 +65,56 @@ fn point(f: &Format, format: u64, slot: u64, code: u64, place: u64) -> Compared 
             ),
         ],
     )
+}
+
+pub fn points_call(generator: &mut Generator, _: &AnnexC) -> Compared {
+    let plan = Plan::new(generator, &[FORMAT, ELEMENT, CODE, POSITION, OUTPUT]);
+    let f = format(generator);
+    let fails = plan.fails(generator, FORMAT);
+    let format = format_number(generator, &f, fails);
+    let fails = plan.fails(generator, POSITION);
+    let (place, length) = row(generator, fails);
+    let fails = plan.fails(generator, ELEMENT);
+    let slots = slots(generator, length, fails);
+    let fails = plan.fails(generator, CODE);
+    let code = code(generator, fails);
+    // There is always room for no points.
+    let fails = plan.fails(generator, OUTPUT) && length > 0;
+    let out_length = draw::room(generator, 2 * length, fails);
+    let slots = Lent::words(generator, &slots);
+    let mut out = Lent::filled_doubles(generator, out_length);
+
+    let expected = waveform::points(format, slots.list(), asked(code), place, out_length);
+    let bits: Vec<u64> = expected.coordinates.iter().map(|c| c.to_bits()).collect();
+    let found = interface::points(format, slots.list(), code, place, out.list_mut());
+    compared(
+        format!(
+            "format {format}, {length} slots, code {code}, place {place}, output of {out_length}"
+        ),
+        met_points(expected.number, &f, code),
+        [
+            equal(u64::from(found), expected.number),
+            slots.unchanged("the list of slots"),
+            out.holds("the output", &bits),
+        ],
+    )
+}
+
+/// The code number, if it stands for one.
+fn asked(code: u64) -> Option<u64> {
+    Some(code).filter(|&code| code != UNSCRAMBLED)
+}
+
+/// What is met, and whether what passes is turned.
+fn met_points(number: u64, f: &Format, code: u64) -> Met {
+    let mut met = met(number, f);
+    if number == PASSED {
+        met.outcome = match code {
+            UNSCRAMBLED => Unscrambled,
+            _ => Scrambled,
+        };
+    }
+    met
 }
 
 /// A coordinate with its bits, which tell 0 from -0.
@@ -130,6 +173,42 @@ fn place(generator: &mut Generator, fails: bool) -> u64 {
     generator.pick(&[0, 1, PLACES - 1, near, near, any, any, any])
 }
 
+/// The first symbol's place and the number of symbols: none, one, some or as many as
+/// there are places, often from the first place on or up to the last; or with the
+/// row's end behind the last.
+fn row(generator: &mut Generator, fails: bool) -> (u64, usize) {
+    let some = generator.below(3000) as u64;
+    let length = generator.pick(&[0, 1, some, some, some, some, some, PLACES]);
+    let last = PLACES - length;
+    let any = generator.below(last as usize + 1) as u64;
+    let place = if fails {
+        let over = u64::MAX - generator.below(length as usize + 1) as u64;
+        let beyond = not_below(generator, any, last + 1);
+        generator.pick(&[last + 1, PLACES + 1, over, beyond])
+    } else {
+        let anew = ANEW.saturating_sub(length / 2).min(last);
+        generator.pick(&[0, last, anew, any])
+    };
+    (place, length as usize)
+}
+
+/// Labels, or some that are none: the first, the last or any, or a few.
+fn slots(generator: &mut Generator, length: usize, fails: bool) -> Vec<u16> {
+    let mut slots: Vec<u16> = (generator.bytes(length).into_iter())
+        .map(u16::from)
+        .collect();
+    if !fails || length == 0 {
+        return slots;
+    }
+    let any = [(); 3].map(|()| generator.below(length));
+    let places = generator.pick(&[[0; 3], [length - 1; 3], [any[0]; 3], any]);
+    for place in places {
+        let none = LABELS as usize + generator.below(usize::from(u16::MAX) - 255);
+        slots[place] = generator.pick(&[256, 257, 258, u16::MAX, none as u16]);
+    }
+    slots
+}
+
 /// A number from the bound on.
 fn not_below(generator: &mut Generator, good: u64, bound: u64) -> u64 {
     loop {
@@ -154,6 +233,12 @@ mod tests {
             assert_ne!(FORMATS.contains(&number), fails);
             assert_ne!(slot(&mut generator, fails) < LABELS, fails);
             assert_ne!(place(&mut generator, fails) < PLACES, fails);
+            let (place, length) = row(&mut generator, fails);
+            let end = place.checked_add(length as u64);
+            assert_ne!(end.is_some_and(|end| end <= PLACES), fails);
+            let slots = slots(&mut generator, length, fails);
+            let labels = slots.iter().all(|&slot| u64::from(slot) < LABELS);
+            assert_ne!(labels, fails && length > 0);
             // What stands for no code number is above all of them.
             let code = code(&mut generator, fails);
             assert!(code == UNSCRAMBLED || (code > LAST_CODE) == fails);
