@@ -20,6 +20,7 @@ static uint16_t entries[SCCC_MAX_I + SPARE];
 static uint8_t labels[SCCC_FRAME_LABELS + SPARE];
 static uint8_t others[SCCC_SYMBOLS + SPARE];
 static uint16_t slots[SCCC_PILOT_FRAME_SLOTS + SPARE];
+static double coordinates[2 * SCCC_POINT_PLACES + SPARE];
 static uint8_t transfer[SCCC_MOST_TRANSFER_FRAME + SPARE];
 static uint8_t waiting[SCCC_WAITING_MEMORY + SPARE];
 
@@ -1926,6 +1927,122 @@ static void point(void)
     points_refused();
 }
 
+/* What a coordinate holds before a call: none of a point. */
+static double coordinate_filling(size_t i)
+{
+    return 2.0 + (double)filling(i) / 128;
+}
+
+/* A call for points in a row on the slots and on filled memory: its answer, and every number that
+ * it leaves. */
+static void points_give(int line, uint8_t number, uint64_t f, size_t slots_len, uint64_t code,
+                        uint64_t place, size_t out_len)
+{
+    static uint16_t before[LENGTH(slots)];
+    const size_t symbols = number == SCCC_PASSED ? slots_len : 0;
+    uint8_t answer;
+    int as_due = 1, unchanged = 1;
+    size_t j;
+    memcpy(before, slots, sizeof slots);
+    for (j = 0; j < LENGTH(coordinates); j++)
+        coordinates[j] = coordinate_filling(j);
+    answer = sccc_points(f, slots_len == 0 ? NULL : slots, slots_len, code, place,
+                         out_len == 0 ? NULL : coordinates, out_len);
+    for (j = 0; j < symbols; j++)
+        as_due = as_due && point_is(sccc_point(f, slots[j], code, place + j), coordinates[2 * j],
+                                    coordinates[2 * j + 1]);
+    for (j = 2 * symbols; j < LENGTH(coordinates); j++)
+        unchanged = unchanged && bits_of(coordinates[j]) == bits_of(coordinate_filling(j));
+    check(line, answer == number, "the answer of sccc_points");
+    check(line, as_due, "the points are those of sccc_point");
+    check(line, unchanged, "out is unchanged where nothing is due");
+    check(line, memcmp(slots, before, sizeof slots) == 0, "the slots are unchanged");
+}
+
+#define ROW(number, f, slots_len, code, place, out_len)                                            \
+    points_give(__LINE__, number, f, slots_len, code, place, out_len)
+
+/* Each format: as many symbols as there are places, and some at either end and between; with just
+ * enough room, with more and with less. */
+static void rows_of_format(uint64_t f)
+{
+    static const uint64_t codes[] = {0, 1, SCCC_LAST_CODE, SCCC_UNSCRAMBLED};
+    const size_t all = SCCC_POINT_PLACES;
+    size_t j;
+    for (j = 0; j < LENGTH(codes); j++) {
+        const uint64_t code = codes[j];
+        ROW(SCCC_PASSED, f, all, code, 0, 2 * all);
+        ROW(SCCC_PASSED, f, all, code, 0, LENGTH(coordinates));
+        ROW(SCCC_PASSED, f, 540, code, 1, 1081);
+        ROW(SCCC_PASSED, f, 100, code, 131021, 200);
+        ROW(SCCC_PASSED, f, 540, code, all - 540, 1080);
+        ROW(SCCC_PASSED, f, 1, code, all - 1, 2);
+        ROW(SCCC_PASSED, f, 0, code, 0, 0);
+        ROW(SCCC_PASSED, f, 0, code, all, LENGTH(coordinates));
+        ROW(SCCC_SHORT_OUTPUT, f, all, code, 0, 2 * all - 1);
+        ROW(SCCC_SHORT_OUTPUT, f, 540, code, 1, 540);
+        ROW(SCCC_SHORT_OUTPUT, f, 1, code, all - 1, 0);
+    }
+}
+
+/* A row's end behind the last place, though the sum of place and length wraps around. */
+static void rows_behind_the_end(void)
+{
+    const size_t all = SCCC_POINT_PLACES;
+    size_t j;
+    ROW(SCCC_BAD_PLACE, 33, all, 0, 1, 2 * all);
+    ROW(SCCC_BAD_PLACE, 33, all + 1, SCCC_UNSCRAMBLED, 0, LENGTH(coordinates));
+    ROW(SCCC_BAD_PLACE, 33, 540, 0, all - 539, 1080);
+    for (j = 0; j < LENGTH(not_places); j++) {
+        ROW(SCCC_BAD_PLACE, 33, 1, 0, not_places[j], 2);
+        ROW(SCCC_BAD_PLACE, 37, 540, SCCC_UNSCRAMBLED, not_places[j], 0);
+    }
+    ROW(SCCC_BAD_PLACE, 33, 0, 0, all + 1, 0);
+    ROW(SCCC_BAD_PLACE, 33, 0, SCCC_UNSCRAMBLED, UINT64_MAX, 0);
+    ROW(SCCC_BAD_PLACE, 33, 540, 0, UINT64_MAX - 539, 1080);
+    ROW(SCCC_BAD_PLACE, 33, 540, 0, UINT64_MAX - 100, 1080);
+}
+
+/* Each check alone, and with everything behind it failing too. */
+static void rows_refused(void)
+{
+    static const uint16_t none[] = {256, 257, 258, 65535};
+    static const size_t places[] = {0, 270, 539};
+    size_t i, j;
+    for (i = 0; i < LENGTH(none); i++)
+        for (j = 0; j < LENGTH(places); j++) {
+            const uint16_t label = slots[places[j]];
+            slots[places[j]] = none[i];
+            ROW(SCCC_BAD_ELEMENT, 33, 540, 0, 0, 1080);
+            ROW(SCCC_BAD_ELEMENT, 37, 540, 262143, 133760, 0);
+            ROW(SCCC_BAD_FORMAT, 32, 540, 262143, 133760, 0);
+            /* behind those that are read */
+            ROW(SCCC_PASSED, 33, places[j], 0, 0, 1080);
+            slots[places[j]] = label;
+        }
+    for (j = 0; j < LENGTH(not_point_formats); j++) {
+        ROW(SCCC_BAD_FORMAT, not_point_formats[j], 540, 0, 0, 1080);
+        ROW(SCCC_BAD_FORMAT, not_point_formats[j], 0, 262143, 133761, 0);
+    }
+    for (j = 0; j < LENGTH(not_codes); j++) {
+        ROW(SCCC_BAD_CODE, 33, 540, not_codes[j], 0, 1080);
+        ROW(SCCC_BAD_CODE, 37, 540, not_codes[j], 133760, 0);
+        ROW(SCCC_BAD_CODE, 35, 0, not_codes[j], 133761, 0);
+    }
+}
+
+static void points(void)
+{
+    uint64_t f;
+    size_t j;
+    for (j = 0; j < LENGTH(slots); j++)
+        slots[j] = (uint16_t)(j * j / 7 % SCCC_POINTS);
+    for (f = SCCC_FIRST_POINT_FORMAT; f <= SCCC_FORMATS; f++)
+        rows_of_format(f);
+    rows_behind_the_end();
+    rows_refused();
+}
+
 /* A thread's own buffers: it encodes one block of its format a few times over. */
 typedef struct {
     uint64_t f;
@@ -1997,6 +2114,7 @@ static void *call_each(void *argument)
     sccc_job_lengthen(old, sizeof old - 1, moved, sizeof moved);
     sccc_job_shorten(longer, sizeof longer - 1, moved, sizeof moved);
     sccc_point(j->f, 255, SCCC_LAST_CODE, 1);
+    sccc_points(j->f, slots + SCCC_HEADER_SLOTS, 540, SCCC_LAST_CODE, 0, coordinates, 1080);
     return NULL;
 }
 
@@ -2059,6 +2177,7 @@ int main(void)
         {"sccc_job_lengthen and sccc_job_shorten", line_moves},
         {"texts that are no job line", no_lines},
         {"sccc_point", point},
+        {"sccc_points", points},
         {"threads", threads},
         {"stack", stack},
     };
