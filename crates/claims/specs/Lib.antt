@@ -10,3 +10,4 @@ pub mod Run
 pub mod Segments
 pub mod Sharing
 pub mod Stream
+pub mod Waveform

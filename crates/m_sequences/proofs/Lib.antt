@@ -1,2 +1,3 @@
 pub mod Linked
 pub mod Period
+pub mod Recursions

@@ -1,1 +1,3 @@
+pub mod Passing
+pub mod Rows
 pub mod Symbols
