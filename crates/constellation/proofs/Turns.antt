@@ -1,9 +1,11 @@
 -- Four quarter turns are none, of any point: a number negated twice is itself, its sign bit too.
 use mathlib.Core.Path.{◌≡◌, refl, sym, ap, ap₂, ◌∙◌}
 use mathlib.Core.Bool.{true, false}
-use Prim.Native.Nat.{ℕ, zero, suc, ◌+◌, ◌*◌, ◌/◌, ◌%◌}
+use mathlib.Core.List.{List, [], ◌∷◌}
+use Prim.Native.Nat.{ℕ, zero, suc, ◌+◌, ◌*◌, ◌/◌, ◌%◌, ◌<◌}
 use native.Mathlib.Omega.{arith}
 use lib.Ieee.{Float, nan, inf, fin, neg}
+use lib.ListN.{get_or}
 use Rattle.constellation.specs.declared.Point.{Point}
 use Rattle.constellation.specs.Points.{point, quarter_turned, turned}
 
@@ -31,12 +33,24 @@ turned-fours n (suc k) p =
     rw more (four-before (n + 4 * k) p ∙ turned-fours n k p)
 
 -- only how many are over counts
-pub turned-over : (n k : ℕ) (p : Point) → n % 4 ≡ k → turned k p ≡ turned n p
-turned-over n k p e =
-    let parts : n ≡ k + 4 * (n / 4) = omega (arith, e) in
-    sym (ap (λ n. turned n p) parts ∙ turned-fours k (n / 4) p)
+pub turned-over : (n : ℕ) (p : Point) → turned (n % 4) p ≡ turned n p
+turned-over n p =
+    let parts : n ≡ n % 4 + 4 * (n / 4) = omega arith in
+    sym (ap (λ n. turned n p) parts ∙ turned-fours (n % 4) (n / 4) p)
 
 -- the row of the annex's table for R = 3
 pub three-turns : (p : Point) → point p.q (neg p.i) ≡ turned 3 p
 unfolding turned
 three-turns p = ap (λ i. point i (neg p.i)) (sym (neg-neg p.q))
+
+-- what becomes of each coordinate, by the turns
+abbrev pub by_turns : Point → List Float
+by_turns p = p.i ∷ neg p.q ∷ neg p.i ∷ p.q ∷ []
+
+pub turned-by_place : (n : ℕ) (p : Point) → n < 4 → point (get_or (by_turns p) n nan) (get_or (by_turns p) ((n + 3) % 4) nan) ≡ turned n p
+unfolding turned
+turned-by_place zero p h = refl
+turned-by_place (suc zero) p h = refl
+turned-by_place (suc (suc zero)) p h = refl
+turned-by_place (suc (suc (suc zero))) p h = three-turns p
+turned-by_place (suc (suc (suc (suc n)))) p h = absurd (omega arith)

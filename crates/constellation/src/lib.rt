@@ -25,24 +25,16 @@ impl Point {
         }
     }
 
-    // The point after so many quarter turns, by swapping and negating alone.
+    // The point after so many quarter turns, by swapping and negating alone. What becomes of each coordinate stands in a list, in the order of the
+    // turns: the machine would foresee a branch on them wrongly three times in four.
     pub fn turned(self, turns: u8) -> Point
         ensures { result ≡ turned turns self }
     {
-        match turns % 4 {
-            0 => self,
-            1 => Point {
-                i: -self.q,
-                q: self.i,
-            },
-            2 => Point {
-                i: -self.i,
-                q: -self.q,
-            },
-            _ => Point {
-                i: self.q,
-                q: -self.i,
-            },
+        let turned = [self.i, -self.q, -self.i, self.q];
+        let at = usize::from(turns % 4);
+        Point {
+            i: turned[at],
+            q: turned[(at + 3) % 4],
         }
     }
 }

@@ -44,18 +44,20 @@ unfolding generated_coordinates
 generated_length g [] = refl
 generated_length g (slot ∷ slots) = omega (arith, generated_length (option_map later g) slots)
 
--- one symbol more
-pub symbol_stored : {out₀ ws out : List Float} {k : ℕ} (g : Option Generator) (p : Point) (slots : List ℕ) → k < length slots
-    → p ≡ generated g (point_of (get_or slots k 0)) → Left out₀ 0 ws out (2 * k) (generated_coordinates g (drop k slots))
-    → Left out₀ 0 ws (set (set out (2 * k) p.i) (2 * k + 1) p.q) (2 * (k + 1)) (generated_coordinates (option_map later g) (drop (k + 1) slots))
+-- before symbol k the coordinates from its own on are left to store, by the generator g
+abbrev pub SymbolsLeft : Option Generator → List ℕ → List Float → List Float → ℕ → Option Generator → Type 0
+SymbolsLeft first slots out₀ out k g = Left out₀ 0 (generated_coordinates first slots) out (2 * k) (generated_coordinates g (drop k slots))
+
+pub symbol_stored : {out₀ out : List Float} {k : ℕ} (first g : Option Generator) (p : Point) (slots : List ℕ) → k < length slots
+    → p ≡ generated g (point_of (get_or slots k 0)) → SymbolsLeft first slots out₀ out k g
+    → SymbolsLeft first slots out₀ (set (set out (2 * k) p.i) (2 * k + 1) p.q) (k + 1) (option_map later g)
 unfolding generated_coordinates
-symbol_stored {k = k} g p slots h is l =
+symbol_stored {k = k} first g p slots h is l =
     let more : 2 * k + 2 ≡ 2 * (k + 1) = omega arith in
     rw (is, sym more) (left_store_two (rw (drop-next slots k h) at l))
 
 pub symbols_stored : {out₀ out : List Float} {k : ℕ} (first g : Option Generator) (slots : List ℕ) → 2 * length slots ≤ length out₀ → length slots ≤ k
-    → Left out₀ 0 (generated_coordinates first slots) out (2 * k) (generated_coordinates g (drop k slots))
-    → out ≡ generated_coordinates first slots ++ drop (2 * length slots) out₀
+    → SymbolsLeft first slots out₀ out k g → out ≡ generated_coordinates first slots ++ drop (2 * length slots) out₀
 unfolding generated_coordinates
 symbols_stored {out₀} {k = k} first g slots room h l =
     let long = generated_length first slots in

@@ -1,11 +1,10 @@
-use mathlib.Core.Path.{ap, ◌∙◌}
 use native.Mathlib.Omega.{arith}
+use Rattle.std.specs.Prelude.{None as none}
 use Rattle.bits.proofs.Fill.{left_start}
 use Rattle.bits.proofs.Legal.{legal-at}
-use Rattle.waveform.specs.Generators.{generated}
 use Rattle.waveform.specs.Waveform.{last_label}
 use Rattle.waveform.proofs.Symbols.{symbol_stored, symbols_stored}
-use Rattle.waveform.proofs.put.Goals as goal
+use Rattle.waveform.proofs.put_plain.Goals as goal
 
 pub loop-k-init : goal.loop-k-init
 loop-k-init c = left_start _ 0 _
@@ -15,8 +14,7 @@ overflow_cast-slot c = record { fits = omega (arith, legal-at last_label c.args.
 
 pub loop-k-preserved : goal.loop-k-preserved
 loop-k-preserved c =
-    let is = c.turned-point.ensures ∙ ap (generated c.loop-k.generator) c.of.ensures in
-    rw c.later-generator.ensures (symbol_stored c.loop-k.generator _ c.args.slots.now c.loop-k-test.true is c.loop-k.invariant)
+    symbol_stored none none _ c.args.slots.now c.loop-k-test.true c.of-point.ensures c.loop-k.invariant
 
 pub returns : goal.returns
-returns c = symbols_stored c.args.first c.loop-k.generator c.args.slots.now c.requires.1 (omega arith) c.loop-k.invariant
+returns c = symbols_stored none none c.args.slots.now c.requires.1 (omega arith) c.loop-k.invariant
