@@ -1,9 +1,9 @@
 //! Times the library's calls beside a plain encoder's, its encoders by segments
-//! and with shared memory beside its own encode, and its encode with BCH pieces
-//! beside that without.
+//! and with shared memory beside its own encode, its encode with BCH pieces
+//! beside that without, and its call for a point alone.
 //!
-//! `speed` prints five tables, `speed calls`, `speed segments`, `speed shared`,
-//! `speed bch` and `speed formats` one of them.
+//! `speed` prints six tables, `speed calls`, `speed segments`, `speed shared`,
+//! `speed bch`, `speed formats` and `speed point` one of them.
 //! `speed --callgrind-call CALL FORMAT N` makes N calls of one kind, for a tool
 //! that counts instructions, and prints how many information bits they took.
 
@@ -12,6 +12,7 @@ mod calls;
 mod measure;
 mod plain;
 mod slicer;
+mod symbols;
 
 use calls::{Arguments, Buffers, Call, Library, Side};
 use measure::side_by_side;
@@ -22,11 +23,12 @@ use plain::Plain;
 use std::hint::black_box;
 use std::process::ExitCode;
 use std::time::Duration;
+use symbols::Symbol;
 
 const ANNEX_C: &str = include_str!("../../../data/annex-c.csv");
 
-const USAGE: &str =
-    "usage: speed [calls | segments | shared | bch | formats | --callgrind-call CALL FORMAT N]
+const USAGE: &str = "usage: speed [calls | segments | shared | bch | formats | point |
+              --callgrind-call CALL FORMAT N]
   CALL is library- or plain-, and then run, encode, labels, frame, frame-pilots, compare-same,
   compare-differ, push-1115, push-65536, block-1115 or block-65536; or it is library-shared-held
   or library-shared-new";
@@ -39,6 +41,9 @@ const FORMATS: [u64; 4] = [1, 13, 27, 37];
 /// part in common.
 const WITH_BCH: u64 = 37;
 const WITHOUT_BCH: u64 = 17;
+
+/// A format with points; all that have them have the same.
+const WITH_POINTS: u64 = 37;
 
 /// How long one pair of calls is timed, and in the table of all formats.
 const BUDGET: Duration = Duration::from_millis(1000);
@@ -75,12 +80,14 @@ fn command(arguments: &[String]) -> Result<(), String> {
             .and_then(|()| segments_table(&plain()))
             .and_then(|()| shared_table(&plain()))
             .and_then(|()| bch_table(&plain()))
-            .and_then(|()| formats_table(&plain())),
+            .and_then(|()| formats_table(&plain()))
+            .and_then(|()| point_table()),
         ["calls"] => calls_table(&plain()),
         ["segments"] => segments_table(&plain()),
         ["shared"] => shared_table(&plain()),
         ["bch"] => bch_table(&plain()),
         ["formats"] => formats_table(&plain()),
+        ["point"] => point_table(),
         ["--callgrind-call", call, format, n] => repeat(&annex_c, call, format, n),
         _ => Err(USAGE.into()),
     }
@@ -285,6 +292,26 @@ fn formats_table(plain: &Plain) -> Result<(), String> {
             line.correlation
         );
     }
+    Ok(())
+}
+
+/// The call for a point, which is for single symbols, so none of the plain encoder's
+/// stands beside it.
+fn point_table() -> Result<(), String> {
+    println!("\ncall            format   library  in microseconds per");
+    let symbols = Symbol::drawn(WITH_POINTS);
+    if !symbols.iter().all(Symbol::agrees) {
+        return Err(format!("point of format {WITH_POINTS} differs"));
+    }
+    let time = measure::alone(BUDGET, || {
+        for symbol in &symbols {
+            black_box(black_box(symbol).point());
+        }
+    });
+    println!(
+        "point           {WITH_POINTS:6} {:9.3}  call with a code number",
+        time / symbols.len() as f64 / 1000.0,
+    );
     Ok(())
 }
 

@@ -1,9 +1,20 @@
-//! Times of two functions taken in turns.
+//! Times of a function alone, and of two taken in turns.
 
 use std::time::{Duration, Instant};
 
 /// One sample takes at least this long, so that the clock's own cost is small.
 const SAMPLE: Duration = Duration::from_micros(20);
+
+/// The shortest time of one call, in nanoseconds.
+pub fn alone(budget: Duration, mut call: impl FnMut()) -> f64 {
+    let calls = calls_in_a_sample(&mut call);
+    let mut best = Duration::MAX;
+    let start = Instant::now();
+    while start.elapsed() < budget {
+        best = best.min(sample(&mut call, calls));
+    }
+    best.as_nanos() as f64 / f64::from(calls)
+}
 
 /// The shortest time of one call of each, in nanoseconds. They take turns until
 /// the budget is spent, so that what else the machine does meets both alike.
