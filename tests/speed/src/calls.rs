@@ -3,14 +3,16 @@
 use crate::plain::{self, Plain};
 use interface::{
     BlockAnswer, Comparison, RunAnswer, SegmentsAnswer, SharedAnswer, Slicer, SlicerAnswer,
+    UNSCRAMBLED,
 };
 use oracle::digest::{seeded_block, seeded_frame};
-use oracle::framing::{PILOT_FRAME_SLOTS, SECTIONS};
+use oracle::framing::{FRAME_LABELS, PILOT_FRAME_SLOTS, SECTIONS};
 use oracle::segments::{equal_cuts, MOST_CUTS};
 use oracle::shared::NONE_HELD;
 use oracle::slicer::MEMORY;
 use oracle::tables::{Format, SECTION};
 use oracle::transfer::{marked_bits, MOST_OCTETS};
+use oracle::waveform;
 
 /// The calls of one side.
 pub trait Side {
@@ -21,6 +23,7 @@ pub trait Side {
     fn compare(&self, format: u64, a: &[u8], b: &[u8]) -> Comparison;
     fn push(&self, slicer: Slicer, frame: &[u8], waiting: &mut [u8]) -> SlicerAnswer;
     fn block(&self, slicer: Slicer, waiting: &mut [u8], out: &mut [u8]) -> BlockAnswer;
+    fn points(&self, format: u64, slots: &[u16], code: u64, place: u64, out: &mut [u64]) -> u8;
 }
 
 pub struct Library;
@@ -53,6 +56,10 @@ impl Side for Library {
     fn block(&self, slicer: Slicer, waiting: &mut [u8], out: &mut [u8]) -> BlockAnswer {
         interface::slicer_block(slicer, waiting, out)
     }
+
+    fn points(&self, format: u64, slots: &[u16], code: u64, place: u64, out: &mut [u64]) -> u8 {
+        interface::points(format, slots, code, place, out)
+    }
 }
 
 impl Side for Plain {
@@ -83,11 +90,18 @@ impl Side for Plain {
     fn block(&self, slicer: Slicer, waiting: &mut [u8], out: &mut [u8]) -> BlockAnswer {
         self.block(slicer, waiting, out)
     }
+
+    fn points(&self, format: u64, slots: &[u16], code: u64, place: u64, out: &mut [u64]) -> u8 {
+        self.points(format, slots, code, place, out)
+    }
 }
 
 /// Octets of the usual frame, and of the longest.
 const USUAL: usize = 1115;
 const LONGEST: usize = MOST_OCTETS;
+
+/// The code number that points are turned by.
+const CODE: u64 = 200_000;
 
 #[derive(Clone, Copy, Debug, PartialEq, Eq)]
 pub enum Call {
@@ -108,10 +122,14 @@ pub enum Call {
     /// Of what waits after such a push.
     BlockUsual,
     BlockLongest,
+    /// Of a frame's labels without pilots, unscrambled.
+    Points,
+    /// The same with a code number.
+    PointsTurned,
 }
 
 impl Call {
-    pub const ALL: [Call; 11] = [
+    pub const ALL: [Call; 13] = [
         Call::Run,
         Call::Encode,
         Call::Labels,
@@ -123,6 +141,8 @@ impl Call {
         Call::PushLongest,
         Call::BlockUsual,
         Call::BlockLongest,
+        Call::Points,
+        Call::PointsTurned,
     ];
 
     pub fn name(self) -> &'static str {
@@ -138,6 +158,8 @@ impl Call {
             Call::PushLongest => "push-65536",
             Call::BlockUsual => "block-1115",
             Call::BlockLongest => "block-65536",
+            Call::Points => "points",
+            Call::PointsTurned => "points-turned",
         }
     }
 
@@ -145,11 +167,19 @@ impl Call {
         Call::ALL.into_iter().find(|call| call.name() == name)
     }
 
-    /// The ratio of times that the library is to stay below.
-    pub fn aim(self) -> f64 {
+    /// Whether the format has it.
+    pub fn is_of(self, format: &Format) -> bool {
         match self {
-            Call::Labels => 3.0,
-            Call::Frame | Call::FramePilots => 2.0,
+            Call::Points | Call::PointsTurned => waveform::FORMATS.contains(&format.number),
+            _ => true,
+        }
+    }
+
+    /// The ratio of times that the library is to stay below, if one was set.
+    pub fn aim(self) -> Option<f64> {
+        match self {
+            Call::Labels => Some(3.0),
+            Call::Frame | Call::FramePilots => Some(2.0),
             Call::Run
             | Call::Encode
             | Call::CompareSame
@@ -157,7 +187,8 @@ impl Call {
             | Call::PushUsual
             | Call::PushLongest
             | Call::BlockUsual
-            | Call::BlockLongest => 1.5,
+            | Call::BlockLongest => Some(1.5),
+            Call::Points | Call::PointsTurned => None,
         }
     }
 
@@ -169,8 +200,9 @@ impl Call {
             }
             Call::PushUsual => ("stream bit", marked_bits(USUAL)),
             Call::PushLongest => ("stream bit", marked_bits(LONGEST)),
-            Call::Frame | Call::FramePilots => ("label", SECTIONS * SECTION),
+            Call::Frame | Call::FramePilots => ("label", FRAME_LABELS),
             Call::CompareSame | Call::CompareDiffer => ("label", SECTION),
+            Call::Points | Call::PointsTurned => ("symbol", FRAME_LABELS),
         }
     }
 }
@@ -187,6 +219,8 @@ pub struct Arguments {
     equal_labels: Vec<u8>,
     changed_labels: Vec<u8>,
     frame_labels: Vec<u8>,
+    /// The frame's labels as its slots.
+    slots: Vec<u16>,
     usual_frame: Vec<u8>,
     longest_frame: Vec<u8>,
 }
@@ -200,13 +234,15 @@ impl Arguments {
         plain.labels(number, &buffers.codeword, &mut buffers.labels);
         let mut changed_labels = buffers.labels.clone();
         changed_labels[SECTION - 1] ^= 1;
+        let frame_labels = buffers.labels.repeat(SECTIONS);
         Arguments {
             format: *format,
             block,
             outer_cuts: equal_cuts(format.K1, MOST_CUTS + 1),
             inner_cuts: equal_cuts(format.I, MOST_CUTS + 1),
             codeword: buffers.codeword,
-            frame_labels: buffers.labels.repeat(SECTIONS),
+            slots: frame_labels.iter().map(|&label| label.into()).collect(),
+            frame_labels,
             equal_labels: buffers.labels.clone(),
             labels: buffers.labels,
             changed_labels,
@@ -235,6 +271,8 @@ pub struct Buffers {
     frame: Vec<u16>,
     waiting: Vec<u8>,
     block: Vec<u8>,
+    /// The bits of coordinates.
+    points: Vec<u64>,
 }
 
 /// What buffers are filled with before a call. A label of eight bits may be
@@ -256,6 +294,7 @@ impl Buffers {
             frame: vec![u16::MAX; PILOT_FRAME_SLOTS],
             waiting: seeded_block(3, MEMORY),
             block: vec![value; format.K],
+            points: vec![u64::MAX; 2 * FRAME_LABELS],
         }
     }
 
@@ -297,6 +336,7 @@ pub fn make(call: Call, side: &impl Side, a: &Arguments, b: &mut Buffers) -> Ans
     let block = |octets, waiting, out| {
         Answer::Block(side.block(a.slicer(marked_bits(octets)), waiting, out))
     };
+    let points = |code, out| Answer::Number(side.points(format, &a.slots, code, 0, out));
     match call {
         Call::Run => Answer::Run(side.run(3, &a.block, &mut b.run)),
         Call::Encode => Answer::Number(side.encode(format, &a.block, &mut b.work, &mut b.codeword)),
@@ -309,6 +349,8 @@ pub fn make(call: Call, side: &impl Side, a: &Arguments, b: &mut Buffers) -> Ans
         Call::PushLongest => push(&a.longest_frame, &mut b.waiting),
         Call::BlockUsual => block(USUAL, &mut b.waiting, &mut b.block),
         Call::BlockLongest => block(LONGEST, &mut b.waiting, &mut b.block),
+        Call::Points => points(UNSCRAMBLED, &mut b.points),
+        Call::PointsTurned => points(CODE, &mut b.points),
     }
 }
 

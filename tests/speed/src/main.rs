@@ -11,6 +11,7 @@ mod bch;
 mod calls;
 mod measure;
 mod plain;
+mod points;
 mod slicer;
 mod symbols;
 
@@ -30,8 +31,8 @@ const ANNEX_C: &str = include_str!("../../../data/annex-c.csv");
 const USAGE: &str = "usage: speed [calls | segments | shared | bch | formats | point |
               --callgrind-call CALL FORMAT N]
   CALL is library- or plain-, and then run, encode, labels, frame, frame-pilots, compare-same,
-  compare-differ, push-1115, push-65536, block-1115 or block-65536; or it is library-shared-held
-  or library-shared-new";
+  compare-differ, push-1115, push-65536, block-1115, block-65536, or with formats 33 to 37 points
+  or points-turned; or it is library-shared-held or library-shared-new";
 
 /// The formats of the first table: the shortest block, one between, the longest
 /// that goes through the trellises alone, and the longest with BCH pieces.
@@ -113,20 +114,21 @@ fn times(call: Call, f: &Format, plain: &Plain, budget: Duration) -> Result<[f64
     ))
 }
 
-/// Each call at four formats.
+/// Each call at those of four formats that have it.
 fn calls_table(plain: &Plain) -> Result<(), String> {
     println!("call            format   library     plain  ratio  aim  in ns per");
     for call in Call::ALL {
-        for f in FORMATS.iter().filter_map(|&number| tables::format(number)) {
+        let formats = FORMATS.iter().filter_map(|&number| tables::format(number));
+        for f in formats.filter(|f| call.is_of(f)) {
             let (unit, units) = call.unit(&f);
+            let aim = call.aim().map_or("-".into(), |aim| aim.to_string());
             let times = times(call, &f, plain, BUDGET)?;
             let [library, plain] = times.map(|time| time / units as f64);
             println!(
-                "{:15} {:6} {library:9.3} {plain:9.3} {:6.2} {:4}  {unit}",
+                "{:15} {:6} {library:9.3} {plain:9.3} {:6.2} {aim:>4}  {unit}",
                 call.name(),
                 f.number,
                 library / plain,
-                call.aim(),
             );
         }
     }
@@ -324,7 +326,7 @@ fn repeat(annex_c: &AnnexC, call: &str, format: &str, n: &str) -> Result<(), Str
     let a = Arguments::new(&plain, &format);
     let mut buffers = Buffers::new(&format);
     let mut memory = calls::built(&a);
-    let call = Call::named(name);
+    let call = Call::named(name).filter(|call| call.is_of(&format));
     let held = match name {
         "shared-held" => Some(format.I as u64),
         "shared-new" => Some(NONE_HELD),

@@ -2,6 +2,7 @@
 //! checks, all tables made beforehand, ordinary loops.
 
 use crate::bch::PlainBch;
+use crate::points::PlainPoints;
 use crate::slicer::PlainSlicer;
 use interface::{BlockAnswer, Comparison, RunAnswer, Slicer, SlicerAnswer};
 use oracle::annex_c::AnnexC;
@@ -46,11 +47,12 @@ impl Tables {
 }
 
 /// The tables of some formats, each at its format's number, and those of the BCH
-/// code and of the slicer.
+/// code, of the slicer and of the points.
 pub struct Plain {
     tables: Vec<Option<Tables>>,
     bch: PlainBch,
     slicer: PlainSlicer,
+    points: PlainPoints,
 }
 
 impl Plain {
@@ -65,6 +67,7 @@ impl Plain {
             tables,
             bch: PlainBch::new(),
             slicer: PlainSlicer::new(),
+            points: PlainPoints::new(),
         }
     }
 
@@ -186,6 +189,10 @@ impl Plain {
             },
         }
     }
+
+    pub fn points(&self, format: u64, slots: &[u16], code: u64, place: u64, out: &mut [u64]) -> u8 {
+        self.points.points(format, slots, code, place, out)
+    }
 }
 
 fn comparison(number: u64, same: u64, count: u64, first: u64) -> Comparison {
@@ -219,8 +226,8 @@ fn top_label(format: &Format) -> u8 {
 
 /// Looks at every element, whatever the first ones are: this way the compiler
 /// takes many at once.
-pub fn all_at_most(list: &[u8], top: u8) -> bool {
-    list.iter().fold(0, |most, &x| most.max(x)) <= top
+pub fn all_at_most<T: Copy + Default + Ord>(list: &[T], top: T) -> bool {
+    list.iter().fold(T::default(), |most, &x| most.max(x)) <= top
 }
 
 /// A trellis run.
