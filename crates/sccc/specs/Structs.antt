@@ -33,7 +33,7 @@ use Rattle.sccc.specs.declared.stream.Slicer.{Slicer}
 use Rattle.sccc.specs.declared.stream.SlicerAnswer.{SlicerAnswer}
 use Rattle.sccc.specs.declared.stream.BlockAnswer.{BlockAnswer}
 use Rattle.sccc.specs.declared.stream.LookAnswer.{LookAnswer}
-use Rattle.sccc.specs.declared.waveform.PointAnswer.{PointAnswer}
+use Rattle.sccc.specs.declared.symbols.PointAnswer.{PointAnswer}
 
 abbrev pub info_struct : acm.Answer → Provenance → FormatInfo
 info_struct a p =

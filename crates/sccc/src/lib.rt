@@ -27,7 +27,7 @@ pub mod lines;
 pub mod machine;
 pub mod run;
 pub mod stream;
-pub mod waveform;
+pub mod symbols;
 
 // The number in the answer of a call that fails no check.
 const PASSED: u64 = 0;
