@@ -111,7 +111,7 @@ fn are_labels(slots: &[u16]) -> bool
 }
 
 // The coordinates of symbols' points, to the front of out, by the generator of the first if there is one. Two loops, and none that asks each time
-// whether there is one: it would take 1.7 times as long.
+// whether there is one: that would take nearly twice as long.
 fn put(slots: &[u16], first: Option<Generator>, out: &mut [f64])
     requires { (all_at_most last_label slots.now ≡ true) × (2 * length slots.now ≤ length out.old) }
     ensures { out.new ≡ generated_coordinates first slots.now ++ drop (2 * length slots.now) out.old }
