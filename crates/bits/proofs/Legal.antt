@@ -9,6 +9,7 @@ use Rattle.std.specs.Prelude.{◌↔◌, IsTrue, fold, max}
 use Rattle.std.specs.List.{All}
 use lib.Dec.{leb}
 use lib.ListN.{get_or, take, drop, replicate, take-append-drop}
+use Rattle.bits.specs.Joined.{joined}
 use Rattle.bits.specs.Legal.{all_at_most}
 use Rattle.bits.proofs.Cases.{by_cases}
 use Rattle.bits.proofs.Table.{left-true}
@@ -85,6 +86,12 @@ pub legal-append : (top : ℕ) (a b : List ℕ) → all_at_most top a ≡ true �
 legal-append top [] b e f = f
 legal-append top (x ∷ a) b e f =
     rw (le-leb x top (legal_head top x a e)) (legal-append top a b (legal-tail top x a e) f)
+
+-- lists that are legal joined are legal each
+pub legal-each : (top : ℕ) (lists : List (List ℕ)) → all_at_most top (joined lists) ≡ true → All (λ (list : List ℕ). all_at_most top list ≡ true) lists
+legal-each top [] h k d s = absurd (omega arith)
+legal-each top (list ∷ lists) h zero d s = legal-front top list (joined lists) h
+legal-each top (list ∷ lists) h (suc k) d s = legal-each top lists (legal-rest top list (joined lists) h) k d (omega arith)
 
 pub legal_repeated : (top n x : ℕ) → x ≤ top → all_at_most top (replicate n x) ≡ true
 legal_repeated top zero x h = refl

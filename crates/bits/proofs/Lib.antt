@@ -11,4 +11,5 @@ pub mod Same
 pub mod Sequences
 pub mod Sums
 pub mod Table
+pub mod Three
 pub mod Words

@@ -1,12 +1,12 @@
 -- Laws of sums modulo 2, of bits and of lists of bits.
-use mathlib.Core.Path.{◌≡◌, refl, ap}
+use mathlib.Core.Path.{◌≡◌, refl, ap, ap₂}
 use mathlib.Core.Bool.{true}
 use mathlib.Core.List.{List, [], ◌∷◌, ◌++◌}
-use Prim.Native.Nat.{ℕ, zero, suc, ◌/◌, ◌%◌, ◌^◌}
+use Prim.Native.Nat.{ℕ, zero, suc, ◌/◌, ◌%◌, ◌^◌, ◌≤◌}
 use native.Mathlib.Nat.{mod-add-mod, add-mod-mod}
 use native.Mathlib.Omega.{arith}
 use borrow.Author.Tests.{le-leb}
-use lib.Bits.{bit_xor, xor_add_and, xor_shr}
+use lib.Bits.{bit_xor, xor_add_and, xor_lt, xor_shr}
 use lib.ListN.{length, get_or, take, drop}
 use Rattle.bits.specs.Legal.{all_bits}
 use Rattle.bits.specs.Sum.{◌⊕◌, ◌⊕*◌, bit}
@@ -14,6 +14,10 @@ use Rattle.bits.specs.Sum.{◌⊕◌, ◌⊕*◌, bit}
 -- the law behind every linearity: sums may be added in either grouping
 pub interchange : (a b c d : ℕ) → (a ⊕ b) ⊕ (c ⊕ d) ≡ (a ⊕ c) ⊕ (b ⊕ d)
 interchange a b c d = simp (mod-add-mod, add-mod-mod) (ap (λ (n : ℕ). n % 2) (omega arith))
+
+-- of bits, the exclusive or is their sum
+pub xor_of_bits : (x y : ℕ) → x ≤ 1 → y ≤ 1 → bit_xor x y ≡ x ⊕ y
+xor_of_bits x y hx hy = omega (arith, xor_add_and x y, xor_lt 1 x y (omega arith) (omega arith))
 
 -- of as many bits
 pub ⊕*-length : (xs ys : List ℕ) → length xs ≡ length ys → length (xs ⊕* ys) ≡ length xs
@@ -60,6 +64,17 @@ pub ⊕*_swap : (a b c : List ℕ) → a ⊕* b ⊕* c ≡ a ⊕* c ⊕* b
 ⊕*_swap (x ∷ a) (y ∷ b) (z ∷ c) =
     let e : x ⊕ y ⊕ z ≡ x ⊕ z ⊕ y = omega arith in
     rw (e, ⊕*_swap a b c)
+
+-- what is added to each of three is added once
+pub ⊕*_thrice : (a b c s : List ℕ) → length a ≡ length b → length b ≡ length c → length c ≡ length s
+    → a ⊕* b ⊕* c ⊕* s ≡ (a ⊕* s) ⊕* (b ⊕* s) ⊕* (c ⊕* s)
+⊕*_thrice [] b c s e f g = refl
+⊕*_thrice (x ∷ a) [] c s e f g = absurd (omega arith)
+⊕*_thrice (x ∷ a) (y ∷ b) [] s e f g = absurd (omega arith)
+⊕*_thrice (x ∷ a) (y ∷ b) (z ∷ c) [] e f g = absurd (omega arith)
+⊕*_thrice (x ∷ a) (y ∷ b) (z ∷ c) (u ∷ s) e f g =
+    let once : x ⊕ y ⊕ z ⊕ u ≡ (x ⊕ u) ⊕ (y ⊕ u) ⊕ (z ⊕ u) = simp (mod-add-mod, add-mod-mod) (omega arith) in
+    ap₂ (λ (n : ℕ) (l : List ℕ). n ∷ l) once (⊕*_thrice a b c s (omega arith) (omega arith) (omega arith))
 
 -- the bits of an exclusive or are the sums of the bits
 pub bit-xor : (j a b : ℕ) → bit j (bit_xor a b) ≡ bit j a ⊕ bit j b

@@ -8,4 +8,5 @@ pub mod Polynomials
 pub mod Same
 pub mod Sequence
 pub mod Sum
+pub mod Three
 pub mod Words

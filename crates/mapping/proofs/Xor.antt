@@ -5,21 +5,21 @@ use mathlib.Core.List.{List, [], ◌∷◌}
 use Prim.Native.Nat.{ℕ, zero, suc, ◌+◌, ◌*◌, ◌^◌, ◌≤◌, ◌<◌}
 use native.Mathlib.Omega.{arith}
 use borrow.Author.Tests.{le-leb}
-use lib.Bits.{bit_xor, xor_add_and, xor_lt, xor_block}
+use lib.Bits.{bit_xor, xor_block}
 use lib.ListN.{length, get_or}
+use lib.Seq.{ext_get_or}
 use Rattle.bits.specs.Digits.{value_from, value}
 use Rattle.bits.specs.Legal.{all_bits}
 use Rattle.bits.specs.Sum.{◌⊕◌, ◌⊕*◌}
+use Rattle.bits.specs.Three.{xored}
 use Rattle.bits.proofs.Legal.{legal-at, legal_head, legal-tail}
-use Rattle.bits.proofs.Sums.{⊕*-at}
+use Rattle.bits.proofs.Sums.{xor_of_bits, ⊕*-at, ⊕*-bits, ⊕*-length}
+use Rattle.bits.proofs.Three.{three-at, three-length, xored-bits}
 use Rattle.acm.specs.Formats.{symbols}
 use Rattle.mapping.specs.Labels.{row_from, label, labels}
-use Rattle.mapping.proofs.Rows.{label_at}
+use Rattle.mapping.proofs.Rows.{label_at, labels-long}
 
 -- bits into a number: packing commutes with the exclusive or
-xor_of_bits : (x y : ℕ) → x ≤ 1 → y ≤ 1 → bit_xor x y ≡ x ⊕ y
-xor_of_bits x y hx hy = omega (arith, xor_add_and x y, xor_lt 1 x y (omega arith) (omega arith))
-
 packed_xor : (n m x y : ℕ) → x ≤ 1 → y ≤ 1 → 2 * bit_xor n m + x ⊕ y ≡ bit_xor (2 * n + x) (2 * m + y)
 packed_xor n m x y hx hy =
     let double : (k z : ℕ) → k * 2 ^ 1 + z ≡ 2 * k + z = λ k z. omega arith in
@@ -59,3 +59,23 @@ module _ (m : ℕ) (a b : List ℕ) (e : length a ≡ length b) (ha : all_bits a
   -- label r of a sum
   pub labels-xor : get_or (labels m (a ⊕* b)) r 0 ≡ bit_xor (get_or (labels m a) r 0) (get_or (labels m b) r 0)
   labels-xor = label_at m (a ⊕* b) r h ∙ label-xor ∙ ap₂ bit_xor (sym (label_at m a r h)) (sym (label_at m b r h))
+
+-- the labels of the exclusive or of three lists of bits
+pub labels-xored : (m : ℕ) (a b c : List ℕ) → length a ≡ length b → length b ≡ length c
+    → all_bits a ≡ true → all_bits b ≡ true → all_bits c ≡ true → labels m (xored a b c) ≡ xored (labels m a) (labels m b) (labels m c)
+labels-xored m a b c e f ha hb hc =
+    ap (labels m) (xored-bits a b c ha hb hc)
+    ∙ ext_get_or 0 (labels m (a ⊕* b ⊕* c)) (xored (labels m a) (labels m b) (labels m c)) (labels-long m (a ⊕* b ⊕* c) ∙ sym long) place
+  where
+    same : (x y : List ℕ) → length (labels m x) ≡ length (labels m y)
+    same x y = labels-long m x ∙ sym (labels-long m y)
+
+    long : length (xored (labels m a) (labels m b) (labels m c)) ≡ symbols
+    long = three-length _ (labels m a) (labels m b) (labels m c) (same a b) (same b c) ∙ labels-long m a
+
+    place : (r : ℕ) → r < length (labels m (a ⊕* b ⊕* c)) → get_or (labels m (a ⊕* b ⊕* c)) r 0 ≡ get_or (xored (labels m a) (labels m b) (labels m c)) r 0
+    place r h =
+        let low : r < symbols = omega (arith, h, labels-long m (a ⊕* b ⊕* c)) in
+        labels-xor m (a ⊕* b) c (⊕*-length a b e ∙ e ∙ f) (⊕*-bits a b) hc r low
+        ∙ ap (λ (n : ℕ). bit_xor n (get_or (labels m c) r 0)) (labels-xor m a b e ha hb r low)
+        ∙ sym (three-at _ (labels m a) (labels m b) (labels m c) r 0 (omega (arith, low, labels-long m a)) (same a b) (same b c))
