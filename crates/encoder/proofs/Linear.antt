@@ -4,9 +4,12 @@ use mathlib.Core.Bool.{true}
 use mathlib.Core.List.{List, ◌++◌}
 use Prim.Native.Nat.{ℕ}
 use lib.ListN.{length}
+use Rattle.bits.specs.Legal.{all_bits}
 use Rattle.bits.specs.Sum.{◌⊕*◌}
+use Rattle.bits.specs.Three.{xored}
 use Rattle.bits.proofs.Lists.{drop-same}
-use Rattle.bits.proofs.Sums.{⊕*-append, ⊕*-take, ⊕*-drop}
+use Rattle.bits.proofs.Sums.{⊕*-append, ⊕*-length, ⊕*-take, ⊕*-drop}
+use Rattle.bits.proofs.Three.{xored-bits}
 use Rattle.acm.specs.Formats.{is_format, format_of, hard_bits}
 use Rattle.trellis.specs.Trellis.{outer}
 use Rattle.trellis.proofs.Linear.{outer-sum}
@@ -16,7 +19,7 @@ use Rattle.inner.proofs.Linear.{from_outer-sum}
 use Rattle.pieces.specs.Pieces.{coded_pieces}
 use Rattle.pieces.proofs.Laws.{pieces-sum}
 use Rattle.encoder.specs.Codeword.{trellis_part, hard_part, hard_coded, codeword}
-use Rattle.encoder.proofs.Codewords.{part-long, outer-long}
+use Rattle.encoder.proofs.Codewords.{codeword-bits, part-long, outer-long}
 
 module _ (f : ℕ) (h : is_format f ≡ true) (a b : List ℕ) (la : length a ≡ (format_of f).k) (lb : length b ≡ (format_of f).k) where
   trellis-sum : from_outer f (outer (trellis_part f (a ⊕* b))) ≡ from_outer f (outer (trellis_part f a)) ⊕* from_outer f (outer (trellis_part f b))
@@ -40,3 +43,12 @@ module _ (f : ℕ) (h : is_format f ≡ true) (a b : List ℕ) (la : length a �
       let other = from_outer f (outer (trellis_part f b)) in
       ap₂ (λ (k l : List ℕ). k ++ l) trellis-sum hard-sum
       ∙ sym (⊕*-append first other (hard_coded f a) (hard_coded f b) (from_outer-length f h (outer (trellis_part f a)) ∙ sym (from_outer-length f h (outer (trellis_part f b)))))
+
+-- the codeword of the exclusive or of three blocks
+pub codeword-xored : (f : ℕ) → is_format f ≡ true → (a b c : List ℕ) → length a ≡ (format_of f).k → length b ≡ (format_of f).k → length c ≡ (format_of f).k
+    → all_bits a ≡ true → all_bits b ≡ true → all_bits c ≡ true → codeword f (xored a b c) ≡ xored (codeword f a) (codeword f b) (codeword f c)
+codeword-xored f h a b c la lb lc ha hb hc =
+    ap (codeword f) (xored-bits a b c ha hb hc)
+    ∙ codeword-sum f h (a ⊕* b) c (⊕*-length a b (la ∙ sym lb) ∙ la) lc
+    ∙ ap (λ (l : List ℕ). l ⊕* codeword f c) (codeword-sum f h a b la lb)
+    ∙ sym (xored-bits (codeword f a) (codeword f b) (codeword f c) (codeword-bits f h a ha) (codeword-bits f h b hb) (codeword-bits f h c hc))

@@ -1,12 +1,14 @@
 -- Laws of the codeword section.
-use mathlib.Core.Path.{◌≡◌, refl}
+use mathlib.Core.Path.{◌≡◌}
 use mathlib.Core.List.{List, [], ◌∷◌}
 use Prim.Native.Nat.{ℕ, zero, suc, ◌+◌, ◌*◌, ◌<◌}
 use native.Mathlib.Omega.{arith}
 use borrow.Author.Tests.{eq-eqb, lt-ltb}
-use lib.ListN.{length, get_or, length-append}
+use lib.ListN.{length, get_or}
 use lib.Seq.{take_at, drop-append-add}
+use Rattle.std.proofs.lemmas.List.Elements.{All-from_get_or}
 use Rattle.bits.specs.Joined.{joined}
+use Rattle.bits.proofs.Lists.{Long, joined-long}
 use Rattle.acm.specs.Formats.{symbols}
 use Rattle.framing.specs.Frame.{section, sections}
 use Rattle.framing.specs.Calls.{section_labels, section_number}
@@ -19,9 +21,7 @@ others : (labels : List ℕ) (lists : List (List ℕ)) → Codewords (labels ∷
 others labels lists all k h = all (suc k) (omega arith)
 
 pub joined_length : (lists : List (List ℕ)) → Codewords lists → length (joined lists) ≡ length lists * symbols
-joined_length [] all = refl
-joined_length (labels ∷ lists) all =
-    rw (length-append labels (joined lists), all 0 (omega arith), joined_length lists (others labels lists all)) (omega arith)
+joined_length lists all = joined-long symbols lists (All-from_get_or (Long symbols) lists [] all)
 
 section_of_joined : (lists : List (List ℕ)) → Codewords lists → (k : ℕ) → k < length lists → section (joined lists) k ≡ get_or lists k []
 section_of_joined [] all k h = absurd (omega arith)

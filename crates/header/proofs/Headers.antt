@@ -2,7 +2,7 @@
 use mathlib.Core.Path.{◌≡◌, refl, sym, ap, ◌∙◌}
 use mathlib.Core.Bool.{true}
 use mathlib.Core.List.{List, [], ◌∷◌, ◌++◌, append_assoc, map-append}
-use Prim.Native.Nat.{ℕ, zero, suc, ◌+◌, ◌*◌, ◌<◌}
+use Prim.Native.Nat.{ℕ, zero, suc, ◌+◌, ◌*◌, ◌≤◌, ◌<◌}
 use native.Mathlib.Omega.{arith}
 use borrow.Author.Tests.{eqb-true, eqb-false}
 use lib.Dec.{eqb}
@@ -51,6 +51,18 @@ slots-low (b ∷ bits) = by_cases (eqb b 0) (λ t. rw t (slots-low bits)) (λ f.
 pub header-low : (f pilots : ℕ) → all_at_most header_one (header f pilots) ≡ true
 unfolding header
 header-low f pilots = slots-low (marker ++ descriptor f pilots)
+
+-- and no slot is below a zero's
+slots-high : (bits : List ℕ) (k : ℕ) → k < length bits → header_zero ≤ get_or (header_slots bits) k 0
+slots-high [] k h = absurd (omega arith)
+slots-high (b ∷ bits) zero h = by_cases (eqb b 0) (λ t. rw t (omega arith)) (λ f. rw f (omega arith))
+slots-high (b ∷ bits) (suc k) h = slots-high bits k (omega arith)
+
+pub header-high : (f pilots s : ℕ) → s < header_length → header_zero ≤ get_or (header f pilots) s 0
+unfolding header
+header-high f pilots s h =
+    slots-high (marker ++ descriptor f pilots) s
+    (omega (arith, h, length-append marker (descriptor f pilots), marker_length_lem, descriptor_length_lem f pilots))
 
 -- a bit and the same turned over have both slots between them
 slots-turned : (n : ℕ) (bits : List ℕ) → length bits ≡ n → all_bits bits ≡ true → (k : ℕ) → k < n

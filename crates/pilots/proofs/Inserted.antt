@@ -1,10 +1,13 @@
 -- Laws of the labels with pilots.
-use mathlib.Core.Path.{◌≡◌, ◌∙◌}
+use mathlib.Core.Path.{◌≡◌, refl, sym, ap, ap₂, ◌∙◌}
 use mathlib.Core.List.{List, [], ◌∷◌, ◌++◌, append_assoc, append-nil}
 use Prim.Native.Nat.{ℕ, zero, suc, ◌+◌, ◌*◌, ◌/◌, ◌≤◌, ◌<◌}
 use native.Mathlib.Omega.{arith}
 use lib.ListN.{length, take, drop, length-append, length-drop, drop_of_length-le}
 use lib.Seq.{length-take-le, take-append-le, drop-append-le, take_all}
+use Rattle.bits.specs.Three.{xored}
+use Rattle.bits.proofs.Lists.{take_same, drop-same}
+use Rattle.bits.proofs.Three.{three-length, three-append, three-take, three-drop, xored_self}
 use Rattle.pilots.specs.Pilots.{inserted, piloted_length, pilots, subsection_labels, subsection_pilots, with_pilots}
 
 -- a whole sub-section, and what follows it
@@ -48,3 +51,29 @@ with_append (suc n) a b e =
     let shorter : length rest ≡ n * subsection_labels = omega (arith, e, length-drop subsection_labels a) in
     with_next (a ++ b) (omega (arith, length-append a b))
     ∙ rw (take-append-le subsection_labels a b h, drop-append-le subsection_labels a b h, with_append n rest b shorter, with_next a h) (simp append_assoc)
+
+-- three lists of one length: the pilots, three times, are pilots
+inserted-xored : (n : ℕ) (a b c : List ℕ) → length a ≡ length b → length b ≡ length c
+    → inserted n (xored a b c) ≡ xored (inserted n a) (inserted n b) (inserted n c)
+inserted-xored zero a b c e f = refl
+inserted-xored (suc n) a b c e f =
+    let k = subsection_labels in
+    let front = take_same k a b e in
+    let other = take_same k b c f in
+    let rest = inserted-xored n (drop k a) (drop k b) (drop k c) (drop-same k a b e) (drop-same k b c f) in
+    ap₂ (λ (l r : List ℕ). l ++ pilots ++ r) (three-take _ k a b c) (ap (inserted n) (three-drop _ k a b c e f) ∙ rest)
+    ∙ sym (three-append _ (take k a ++ pilots) (take k b ++ pilots) (take k c ++ pilots) (inserted n (drop k a)) (inserted n (drop k b)) (inserted n (drop k c))
+    (behind a b front) (behind b c other)
+    ∙ ap (λ (l : List ℕ). l ++ xored (inserted n (drop k a)) (inserted n (drop k b)) (inserted n (drop k c)))
+    (three-append _ (take k a) (take k b) (take k c) pilots pilots pilots front other ∙ ap (λ (l : List ℕ). xored (take k a) (take k b) (take k c) ++ l) (xored_self pilots)))
+  where
+    behind : (x y : List ℕ) → length (take subsection_labels x) ≡ length (take subsection_labels y)
+        → length (take subsection_labels x ++ pilots) ≡ length (take subsection_labels y ++ pilots)
+    behind x y e = omega (arith, e, length-append (take subsection_labels x) pilots, length-append (take subsection_labels y) pilots)
+
+pub with_xored : (a b c : List ℕ) → length a ≡ length b → length b ≡ length c
+    → with_pilots (xored a b c) ≡ xored (with_pilots a) (with_pilots b) (with_pilots c)
+unfolding with_pilots
+with_xored a b c e f =
+    let last : length c ≡ length a = sym (e ∙ f) in
+    rw (three-length _ a b c e f, ← e, last) (inserted-xored (length a / subsection_labels) a b c e f)

@@ -8,9 +8,11 @@ use lib.Bits.{bit_xor}
 use lib.ListN.{length, length-append}
 use Rattle.bits.specs.Legal.{all_bits}
 use Rattle.bits.specs.Sum.{◌⊕*◌}
+use Rattle.bits.specs.Three.{xored}
 use Rattle.bits.specs.Words.{bits_of, unpacked}
 use Rattle.bits.proofs.Sequences.{sequence-append, sequence-length}
-use Rattle.bits.proofs.Sums.{⊕*-append, ⊕*-bits, ⊕*-length}
+use Rattle.bits.proofs.Sums.{⊕*-append, ⊕*-bits, ⊕*-length, ⊕*_thrice}
+use Rattle.bits.proofs.Three.{three-length, unpacked-xored, xored-bits}
 use Rattle.bits.proofs.Words.{bits-xor, length-bits, length-unpacked, unpacked-append}
 use Rattle.randomizer.specs.Randomizer.{h, octet_length, all_ones, pseudo_random, randomized}
 use Rattle.randomizer.specs.Tables.{masked, Masks}
@@ -68,3 +70,24 @@ randomized-length frame =
 pub randomized-bits : (frame : List ℕ) → all_bits (randomized frame) ≡ true
 unfolding randomized
 randomized-bits frame = ⊕*-bits (unpacked octet_length frame) (pseudo_random (octet_length * length frame))
+
+-- three frames of one length: the sequence is added three times, which is once
+pub randomized-xored : (a b c : List ℕ) → length a ≡ length b → length b ≡ length c
+    → randomized (xored a b c) ≡ xored (randomized a) (randomized b) (randomized c)
+unfolding randomized
+randomized-xored a b c e f =
+    let n = octet_length in
+    let u = unpacked n a in
+    let v = unpacked n b in
+    let w = unpacked n c in
+    let s = pseudo_random (n * length a) in
+    let sb : pseudo_random (n * length b) ≡ s = ap (λ (k : ℕ). pseudo_random (n * k)) (sym e) in
+    let sc : pseudo_random (n * length c) ≡ s = ap (λ (k : ℕ). pseudo_random (n * k)) (sym (e ∙ f)) in
+    let long : length (xored a b c) ≡ length a = three-length _ a b c e f in
+    let lu = length-unpacked n a in
+    let lv = length-unpacked n b in
+    let lw = length-unpacked n c in
+    rw (long, sb, sc)
+    (ap (λ (l : List ℕ). l ⊕* s) (unpacked-xored n a b c e f)
+    ∙ ⊕*_thrice u v w s (omega (arith, lu, lv, e)) (omega (arith, lv, lw, f)) (omega (arith, lw, e, f, sequence-long (n * length a)))
+    ∙ sym (xored-bits (u ⊕* s) (v ⊕* s) (w ⊕* s) (⊕*-bits u s) (⊕*-bits v s) (⊕*-bits w s)))
