@@ -11,4 +11,6 @@ pub mod Run
 pub mod Segments
 pub mod Sharing
 pub mod Stream
+pub mod ThreeFrames
+pub mod Through
 pub mod Waveform

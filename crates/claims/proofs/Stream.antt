@@ -27,16 +27,16 @@ use Rattle.slicer.proofs.Answers.{hands_out, hands_none}
 use Rattle.claims.specs.Stream.{Call, Push, Block, Change, Channel, begun, call, calls, InOrder, Streams, Waits, Open, StaysOpen, Slicing}
 
 -- the bits are in order, and all that wait are there
-record Kept (c : Channel) : Type 0 where
-  there : c.slicer.waiting ≤ length c.memory
-  order : InOrder c
+pub record Kept (c : Channel) : Type 0 where
+  pub there : c.slicer.waiting ≤ length c.memory
+  pub order : InOrder c
 
 -- the waiting bits pass their checks, in a format that there is
 pub record Sound (c : Channel) : Type 0 where
-  known : is_format c.slicer.format ≡ true
-  few : c.slicer.waiting ≤ memory_length
-  bits : all_bits (waiting_bits c.slicer.waiting c.memory) ≡ true
-  room : memory_length ≤ length c.memory
+  pub known : is_format c.slicer.format ≡ true
+  pub few : c.slicer.waiting ≤ memory_length
+  pub bits : all_bits (waiting_bits c.slicer.waiting c.memory) ≡ true
+  pub room : memory_length ≤ length c.memory
 
 -- a channel that has taken a frame in, one that has handed a block out, and one that goes on in another format
 abbrev pub taken : Channel → List ℕ → Channel
@@ -48,7 +48,7 @@ taken c frame =
       blocks = c.blocks;
     }
 
-abbrev given : Channel → Channel
+abbrev pub given : Channel → Channel
 given c =
     let k = K c.slicer in
     record {
@@ -66,7 +66,7 @@ pub push_taken : (c : Channel) (frame : List ℕ) → push_number c.slicer (leng
 unfolding pushed push_memory
 push_taken c frame e = rw e
 
-push_either : (P : Channel → Type 0) (c : Channel) (frame : List ℕ) → P c → (PushPassed c.slicer (length frame) c.memory → P (taken c frame))
+pub push_either : (P : Channel → Type 0) (c : Channel) (frame : List ℕ) → P c → (PushPassed c.slicer (length frame) c.memory → P (taken c frame))
     → P (call c (Push frame))
 unfolding pushed push_memory
 push_either P c frame same more =
@@ -86,7 +86,7 @@ block-given c out there t =
     take_at (take k c.memory) (drop k out) k (length-take-le k c.memory (omega (arith, h.enough))) in
     rw (t, h.after, first)
 
-block-either : (P : Channel → Type 0) (c : Channel) (out : List ℕ) → c.slicer.waiting ≤ length c.memory → P c
+pub block-either : (P : Channel → Type 0) (c : Channel) (out : List ℕ) → c.slicer.waiting ≤ length c.memory → P c
     → (K c.slicer ≤ c.slicer.waiting → P (given c)) → P (call c (Block out))
 unfolding block_memory
 block-either P c out there same more =
@@ -99,7 +99,7 @@ pub change-into : (c : Channel) (f : ℕ) → change_number c.slicer f ≡ passe
 unfolding changed
 change-into c f e = rw e
 
-change-either : (P : Channel → Type 0) (c : Channel) (f : ℕ) → P c → (ChangePassed c.slicer f → P (into c f)) → P (call c (Change f))
+pub change-either : (P : Channel → Type 0) (c : Channel) (f : ℕ) → P c → (ChangePassed c.slicer f → P (into c f)) → P (call c (Change f))
 unfolding changed
 change-either P c f same more =
     by_cases (eqb (change_number c.slicer f) passed)
@@ -108,7 +108,7 @@ change-either P c f same more =
     (λ n. rw n same)
 
 -- a frame taken in, and a block handed out, keep the order
-taken-keeps : (c : Channel) (frame : List ℕ) → PushPassed c.slicer (length frame) c.memory → Kept c → Kept (taken c frame)
+pub taken-keeps : (c : Channel) (frame : List ℕ) → PushPassed c.slicer (length frame) c.memory → Kept c → Kept (taken c frame)
 taken-keeps c frame p k =
     let w = c.slicer.waiting in
     let bits = sync_marked frame in
@@ -122,7 +122,7 @@ taken-keeps c frame p k =
           ∙ sym (stream-last c.frames frame);
     }
 
-given-keeps : (c : Channel) → K c.slicer ≤ c.slicer.waiting → Kept c → Kept (given c)
+pub given-keeps : (c : Channel) → K c.slicer ≤ c.slicer.waiting → Kept c → Kept (given c)
 given-keeps c enough k =
     let n = K c.slicer in
     let w = c.slicer.waiting in
@@ -150,7 +150,7 @@ taken-sound c frame p h =
       room = omega (arith, behind-length w bits c.memory room, h.room);
     }
 
-given-sound : (c : Channel) → K c.slicer ≤ c.slicer.waiting → Sound c → Sound (given c)
+pub given-sound : (c : Channel) → K c.slicer ≤ c.slicer.waiting → Sound c → Sound (given c)
 given-sound c enough h =
     let n = K c.slicer in
     let w = c.slicer.waiting in

@@ -10,4 +10,5 @@ pub mod Run
 pub mod Segments
 pub mod Sharing
 pub mod Stream
+pub mod ThreeFrames
 pub mod Waveform
