@@ -2,6 +2,7 @@ pub mod CodedBits
 pub mod Comparison
 pub mod Demand3
 pub mod Extension
+pub mod Goes
 pub mod JobLine
 pub mod Look
 pub mod Pilots

@@ -29,7 +29,8 @@ use Rattle.framing.specs.Frame.{sections, body, frame}
 use Rattle.framing.proofs.Frames.{frame_length_lem, frame-xored}
 use Rattle.claims.specs.Demand3.{Block, block_labels}
 use Rattle.claims.specs.ThreeFrames.{Through, built, Frames, Adds, TwoDoNot, AnyOrder, Made, Again, Goes, Least, ThreeFrames}
-use Rattle.claims.proofs.Through.{blocks-are, first-many, first-long, first-joined, goes-through}
+use Rattle.claims.proofs.Goes.{goes-through}
+use Rattle.claims.proofs.Through.{blocks-are, first-many, first-long, first-joined}
 
 -- of lists of one length
 long-again : (n : ℕ) (a b c : List ℕ) → Long n a → Long n b → Long n c → Long n (xored a b c)
