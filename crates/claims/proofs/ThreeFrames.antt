@@ -98,6 +98,7 @@ module _ (f : ℕ) (h : is_format f ≡ true) where
     others : length (first qs) ≡ length (first rs)
     others = first-many q ∙ sym (first-many r)
 
+    -- the fourth run's first blocks are the exclusive or of the others' first
     blocks-xored : first ds ≡ lists_xored (first ps) (first qs) (first rs)
     blocks-xored =
         joined-once k (first ds) (lists_xored (first ps) (first qs) (first rs))
@@ -114,6 +115,7 @@ module _ (f : ℕ) (h : is_format f ≡ true) where
             ∙ sym (joined-xored k (first ps) (first qs) (first rs) both others (first-long p) (first-long q) (first-long r)
             ∙ rw (first-joined p, first-joined q, first-joined r))
 
+    -- so are their labels
     abbrev L : List (List ℕ) → List (List ℕ)
     L blocks = map (block_labels f) (first blocks)
 
@@ -132,6 +134,7 @@ module _ (f : ℕ) (h : is_format f ≡ true) where
     many : (x y : List (List ℕ)) → length (first x) ≡ length (first y) → length (joined (L x)) ≡ length (joined (L y))
     many x y e = labels-many f (first x) ∙ ap (λ (n : ℕ). n * symbols) e ∙ sym (labels-many f (first y))
 
+    -- and so the frames
     frames-add : built f pilots ds ≡ xored (built f pilots ps) (built f pilots qs) (built f pilots rs)
     frames-add = ap (frame f pilots) labels-xored-all ∙ frame-xored f pilots (joined (L ps)) (joined (L qs)) (joined (L rs)) (many ps qs both) (many qs rs others)
 
@@ -146,6 +149,7 @@ goes : Goes
 goes f known count n least most frames F bits =
     goes-through f known n least most (replicate memory_length 0) (room memory_length) frames F.long (omega (arith, bits))
 
+-- 11,512 octets with their marker are 92,128 bits, and so are sixteen blocks of 5,758
 k-of-1 : (format_of 1).k ≡ 5758
 unfolding format_of formats
 k-of-1 = refl
