@@ -67,13 +67,24 @@ pub fn frame_blocks(format: &Format) -> Vec<Vec<u8>> {
 }
 
 /// The test stream: transfer frames of 1,115 octets, of the seeds 4000, 4001
-/// and so on.
+/// and so on. It is the first of three test lists.
 const FRAME: usize = 1115;
+const FIRST_SEEDS: [u64; 3] = [4000, 5000, 6000];
+
+/// The transfer frames of a seed and those that follow.
+fn transfer_frames(first: u64) -> impl Iterator<Item = Vec<u8>> {
+    (first..).map(|seed| seeded_frame(seed, FRAME))
+}
+
+/// Three lists of transfer frames, which are enough for sixteen blocks of a format.
+pub fn test_lists(format: &Format) -> [Vec<Vec<u8>>; 3] {
+    let enough = 16 * format.K / transfer::marked_bits(FRAME) + 1;
+    FIRST_SEEDS.map(|first| transfer_frames(first).take(enough).collect())
+}
 
 /// Sixteen blocks of the test stream, from a bit on.
 fn blocks_from(start: usize, format: &Format) -> Vec<Vec<u8>> {
-    let frames = (4000..).map(|seed| seeded_frame(seed, FRAME));
-    let bits: Vec<u8> = frames
+    let bits: Vec<u8> = transfer_frames(FIRST_SEEDS[0])
         .flat_map(|frame| transfer::marked(&frame))
         .skip(start)
         .take(16 * format.K)

@@ -26,6 +26,7 @@ pub mod self_check;
 pub mod shared;
 pub mod slicer;
 pub mod tables;
+pub mod three;
 pub mod transfer;
 pub mod trellis;
 pub mod waveform;

@@ -5,7 +5,7 @@
 
 use oracle::annex_c::{self, AnnexC};
 use oracle::digest::{
-    changed_blocks, digest, frame_blocks, pattern_block, stream_blocks, vector_blocks,
+    changed_blocks, digest, frame_blocks, pattern_block, stream_blocks, test_lists, vector_blocks,
     waiting_at_change,
 };
 use oracle::encoder::{encode, labels};
@@ -13,8 +13,8 @@ use oracle::shared::Memory;
 use oracle::slicer::{self, Slicer};
 use oracle::tables::{self, Format};
 use oracle::{
-    annex_d, checks, framing, job_line, puncturing_search, segments, self_check, trellis, waveform,
-    wrong_rows,
+    annex_d, checks, framing, job_line, puncturing_search, segments, self_check, three, trellis,
+    waveform, wrong_rows,
 };
 use std::io::Write;
 use std::path::PathBuf;
@@ -39,6 +39,9 @@ const USAGE: &str = "usage: oracle [--annex-c PATH] COMMAND
                        moved to either form
   points               the points of eight symbols in a row, by two code
                        numbers and unscrambled
+  three                digests of the frame of the list that is the exclusive or
+                       of three lists of transfer frames, seven formats, pilots
+                       off and on
   ones FORMAT PATTERN  ones in the codeword of pattern 0, 1 or 2
   annex-d              the spread of each interleaver
   wrong-rows           how often annex D's rule misses a wrong row of annex C
@@ -107,6 +110,7 @@ fn command(arguments: &[String]) -> Result<(String, ExitCode), String> {
         ["shared"] => shared(&annex_c()?),
         ["lines"] => lines(),
         ["points"] => points(),
+        ["three"] => of_three(&annex_c()?),
         ["ones", format, pattern] => ones(&annex_c()?, format, pattern)?,
         ["annex-d"] => annex_d::listing(&annex_c()?),
         ["wrong-rows"] => wrong_rows::listing(&annex_c()?),
@@ -280,6 +284,21 @@ fn points() -> String {
                 "{format},{name},{place},{label},{:.4},{:.4},{I:016X},{Q:016X}\n",
                 point.I, point.Q,
             ));
+        }
+    }
+    text
+}
+
+/// Digests of the frame of the list that is the exclusive or of three test lists,
+/// with either pilot choice.
+fn of_three(annex_c: &AnnexC) -> String {
+    let mut text = String::from("format,pilots,frame\n");
+    for f in of_each_modulation() {
+        let list = three::exclusive_or_of_lists(&test_lists(&f));
+        let labels = three::labels(annex_c, &f, &list);
+        for pilots in [0, 1] {
+            let frame = framing::frame(&f, pilots, &labels);
+            text.push_str(&format!("{},{pilots},{}\n", f.number, digest(&frame)));
         }
     }
     text
