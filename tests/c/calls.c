@@ -1490,6 +1490,104 @@ static void slicer_changes(void)
     }
 }
 
+/* Three lists of transfer frames, one behind the other, and their exclusive or, octet by octet.
+ * Each has sixteen blocks of the longest format, the rest of a frame, and one that is refused. */
+enum { LIST = 2 * SCCC_MAX_K + 2 * SCCC_MOST_TRANSFER_FRAME };
+static uint8_t lists[4][LIST];
+
+static void fill_lists(uint64_t seed)
+{
+    size_t j, i;
+    memset(lists[3], 0, LIST);
+    for (j = 0; j < 3; j++)
+        for (i = 0; i < LIST; i++) {
+            seed = seed * UINT64_C(6364136223846793005) + 1;
+            lists[j][i] = (uint8_t)(seed >> 56);
+            lists[3][i] ^= lists[j][i];
+        }
+}
+
+static void section_labels(uint64_t f, uint64_t place)
+{
+    const sccc_format_info r = sccc_format(f);
+    uint8_t *list = labels + sccc_section(labels, SCCC_FRAME_LABELS, place).start;
+    CHECK(sccc_encode(f, block, r.k, work, r.i, codeword, r.n) == SCCC_PASSED);
+    CHECK(sccc_labels(f, codeword, r.n, list, SCCC_SYMBOLS) == SCCC_PASSED);
+}
+
+/* The labels of a list's first sixteen blocks, through a fresh slicer on the memory as it is.
+ * Either frames are pushed until one is refused because a block is there, or a block is asked for
+ * first, and a frame pushed where it has to wait. */
+static void list_labels(uint64_t f, const uint8_t *list, size_t octets, int pushes_first)
+{
+    const size_t k = sccc_format(f).k;
+    sccc_slicer s = sccc_slicer_new(f);
+    size_t bits = 0;
+    uint64_t place = 0;
+    int pushing = pushes_first;
+    while (place < SCCC_SECTIONS) {
+        const int there = bits >= k;
+        if (pushing) {
+            sccc_slicer_answer p = sccc_slicer_push(s, list, octets, waiting, sizeof waiting);
+            CHECK(p.number == (there ? SCCC_BLOCK_WAITS : SCCC_PASSED));
+            s = p.slicer;
+            list += there ? 0 : octets;
+            bits += there ? 0 : 32 + 8 * octets;
+            pushing = pushes_first && !there;
+        } else {
+            sccc_block_answer b = sccc_slicer_block(s, waiting, sizeof waiting, block, k);
+            CHECK(b.number == SCCC_PASSED && b.wait == !there);
+            s = b.slicer;
+            pushing = pushes_first || !there;
+            if (there) {
+                bits -= k;
+                section_labels(f, place++);
+            }
+        }
+    }
+}
+
+/* All sixteen blocks in one transfer frame, to the bit, or the longest frame where that is too
+ * short for them; the shortest; a usual one; or another one for each format. */
+static size_t list_octets(uint64_t f)
+{
+    const size_t whole = (16 * sccc_format(f).k - 32) / 8;
+    const size_t octets[] = {whole < SCCC_MOST_TRANSFER_FRAME ? whole : SCCC_MOST_TRANSFER_FRAME,
+                             SCCC_LEAST_TRANSFER_FRAME, 1115, 223 + 997 * f};
+    return octets[f % 4];
+}
+
+/* Document 02, L13: three lists' frames make the frame of the lists' exclusive or. Two make none,
+ * since they have one header. */
+static void three_frames_of_format(uint64_t f)
+{
+    static const size_t lengths[] = {SCCC_FRAME_SLOTS, SCCC_PILOT_FRAME_SLOTS};
+    static uint16_t made[2][SCCC_PILOT_FRAME_SLOTS]; /* the exclusive or of j frames */
+    uint64_t pilots;
+    size_t j, i;
+    memset(made, 0, sizeof made);
+    fill_lists(f);
+    for (j = 0; j < 4; j++) {
+        list_labels(f, lists[j], list_octets(f), (f + j) % 2);
+        for (pilots = 0; pilots < 2; pilots++) {
+            uint16_t *m = made[pilots];
+            const size_t length = lengths[pilots];
+            CHECK(sccc_frame(f, pilots, labels, SCCC_FRAME_LABELS, slots, length) == SCCC_PASSED);
+            CHECK(j != 2 || all((uint8_t *)m, 2 * SCCC_HEADER_SLOTS, 0));
+            CHECK(j != 3 || memcmp(m, slots, 2 * length) == 0);
+            for (i = 0; i < length; i++)
+                m[i] ^= slots[i];
+        }
+    }
+}
+
+static void three_frames(void)
+{
+    uint64_t f;
+    for (f = 1; f <= SCCC_FORMATS; f++)
+        three_frames_of_format(f);
+}
+
 /* A job line's text, or one that is none, and what a move writes. */
 static uint8_t text[256 + SPARE];
 static uint8_t moved[SCCC_LONGEST_LINE + SPARE];
@@ -2173,6 +2271,7 @@ int main(void)
         {"sccc_slicer_change and sccc_slicer_look", slicer_change},
         {"slicers' runs", slicer_run},
         {"slicers' changes of format", slicer_changes},
+        {"three frames", three_frames},
         {"sccc_job", job_lines},
         {"sccc_job_lengthen and sccc_job_shorten", line_moves},
         {"texts that are no job line", no_lines},
