@@ -850,6 +850,41 @@ class Slicers(Case):
         self.assertTrue(numpy.shares_memory(numpy.asarray(slicer.block(out=out)), out))
 
 
+class ThreeFrames(Case):
+    """Document 02, L13, of format 32 from many transfer frames and of format 7 from one."""
+
+    cases = ((32, 463, 223), (7, 1, 65536))
+
+    def transfer_frames(self, seed, count, length):
+        return numpy.random.RandomState(seed).randint(0, 256, (count, length)).astype(numpy.uint8)
+
+    def frame(self, f, pilots, transfer_frames):
+        """Of the first sixteen blocks."""
+        slicer, blocks, labels = sccc.Slicer(f), [], bytearray(sccc.FRAME_LABELS)
+        for transfer_frame in transfer_frames:
+            slicer.push(transfer_frame)
+            blocks += slicer
+        for place in range(sccc.SECTIONS):
+            sccc.labels(f, sccc.encode(f, blocks[place]), out=sccc.section(labels, place))
+        return numpy.asarray(sccc.frame(f, pilots, labels))
+
+    def test_three_frames_make_a_frame(self):
+        for (f, count, length), pilots in product(self.cases, (0, 1)):
+            lists = [self.transfer_frames(seed, count, length) for seed in range(3)]
+            a, b, c = (self.frame(f, pilots, transfer_frames) for transfer_frames in lists)
+            built = self.frame(f, pilots, lists[0] ^ lists[1] ^ lists[2])
+            self.assertTrue((a ^ b ^ c == built).all())
+
+    def test_two_frames_make_none(self):
+        """Header and pilots are gone."""
+        for (f, count, length), pilots in product(self.cases, (0, 1)):
+            lists = [self.transfer_frames(seed, count, length) for seed in range(2)]
+            a, b = (self.frame(f, pilots, transfer_frames) for transfer_frames in lists)
+            self.assertFalse((a ^ b)[:320].any())
+            self.assertFalse((a ^ b)[a == sccc.PILOT].any())
+            self.assertTrue((a ^ b).any())
+
+
 class JobLines(Case):
     def line(self, *fields):
         return ",".join(map(str, fields)).encode() + b"\n"
