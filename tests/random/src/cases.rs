@@ -4,7 +4,7 @@
 use crate::calls::{Call, Compared, CALLS};
 use crate::generator::Generator;
 use crate::tally::{Met, Outcome, Tally};
-use crate::{shared, slicer, waveform};
+use crate::{shared, slicer, three, waveform};
 use oracle::annex_c::AnnexC;
 use oracle::tables::{self, Format};
 use std::time::{Duration, Instant};
@@ -23,39 +23,46 @@ use std::time::{Duration, Instant};
 /// refusal with 3. Of 87 cases 4 are pushes, of 8 pushes one is to fail this check
 /// first; of 5 slicers that are drawn for it one has no bits waiting, and of 8
 /// memories one is empty: 4/87 x 1/8 x 4/5 x 7/8 = 1/249. So 11,800 cases, the runs
-/// taken off, miss one of the outcomes, 134 in all, less than once in 10^17 runs of
+/// taken off, miss one of the outcomes, 136 in all, less than once in 10^17 runs of
 /// this program.
 const LEAST: u64 = 11_800;
 
-/// A kind of run: its name, the outcomes that its calls can have, and its
-/// comparison.
+/// A kind of run: its name, the outcomes that its calls can have, how many cases
+/// have one of it, and its comparison.
 struct Run {
     name: &'static str,
     outcomes: &'static [Outcome],
+    every: u64,
     compare: fn(&mut Generator, &AnnexC, &Format) -> Compared<Vec<Met>>,
 }
 
-const RUNS: [Run; 3] = [
+const RUNS: [Run; 4] = [
     Run {
         name: "slicer run",
         outcomes: slicer::OUTCOMES,
+        every: 100,
         compare: slicer::run,
     },
     Run {
         name: "shared run",
         outcomes: shared::OUTCOMES,
+        every: 100,
         compare: shared::run,
     },
     Run {
         name: "point run",
         outcomes: waveform::OUTCOMES,
+        every: 100,
         compare: waveform::run,
     },
+    // Dear: the library encodes 64 blocks, and the oracle sixteen.
+    Run {
+        name: "three frames",
+        outcomes: three::OUTCOMES,
+        every: 300,
+        compare: three::run,
+    },
 ];
-
-/// Of so many cases the first ones are a run of each kind, of the formats in turn,
-/// so that each format has one.
-const RUNS_EVERY: u64 = 100;
 
 /// What is tallied, with the outcomes to be met: each call, and the runs last.
 fn parts() -> Vec<(&'static str, &'static [Outcome])> {
@@ -147,10 +154,12 @@ impl Cases<'_> {
 }
 
 /// The run that a case is, by its place in the list, and its format, if it is one.
+/// The formats take turns, so that each has one.
 fn run_of(case: u64) -> Option<(usize, &'static Format)> {
-    let [turn, place] = [case / RUNS_EVERY, case % RUNS_EVERY].map(|number| number as usize);
+    let run = (0..RUNS.len()).find(|&run| case % RUNS[run].every == run as u64)?;
+    let turn = (case / RUNS[run].every) as usize;
     let formats = tables::formats();
-    (place < RUNS.len()).then(|| (place, &formats[turn % formats.len()]))
+    Some((run, &formats[turn % formats.len()]))
 }
 
 /// A call's place in the list, each as often as its weight says.

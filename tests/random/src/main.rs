@@ -11,6 +11,7 @@ mod lent;
 mod shared;
 mod slicer;
 mod tally;
+mod three;
 mod watch;
 mod waveform;
 

@@ -192,7 +192,7 @@ fn command(generator: &mut Generator) -> (Slicer, u64, Format) {
 
 /// Octets of a frame, within the range or not. Long frames take long, and are
 /// rare.
-fn frame_length(generator: &mut Generator, fails: bool) -> usize {
+pub fn frame_length(generator: &mut Generator, fails: bool) -> usize {
     if fails {
         let below = generator.below(LEAST_OCTETS);
         let above = MOST_OCTETS + 1;

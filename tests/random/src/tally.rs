@@ -7,7 +7,7 @@ use std::fmt::{self, Display, Formatter};
 #[derive(Clone, Copy, Debug, PartialEq, Eq, PartialOrd, Ord)]
 pub enum Outcome {
     Passed,
-    /// A frame passed, pilots off or on.
+    /// A frame passed, or is what three frames make, pilots off or on.
     PilotsOff,
     PilotsOn,
     /// A call with shared memory passed, which held its size or was built.
@@ -96,7 +96,7 @@ impl Tally {
         let (refused, passed): (Vec<_>, Vec<_>) =
             (self.outcomes.iter()).partition(|(outcome, _)| outcome.is_refusal());
         let mut line = format!(
-            "{name:10} {:6} compared: {}; {}",
+            "{name:12} {:6} compared: {}; {}",
             self.count(),
             counted("passed", &passed),
             counted("refused", &refused)
