@@ -15,9 +15,10 @@ use Rattle.bits.specs.Three.{of_three, xored, lists_xored}
 use Rattle.bits.specs.Words.{bits_of, unpacked}
 use Rattle.bits.proofs.Legal.{legal_head, legal-tail}
 use Rattle.bits.proofs.Lists.{Long}
-use Rattle.bits.proofs.Sums.{xor_of_bits, ⊕*-append, ⊕*-bits, ⊕*-length}
+use Rattle.bits.proofs.Sums.{xor_of_bits, ⊕*-append, ⊕*-length}
 use Rattle.bits.proofs.Words.{bits-xor, length-bits}
 
+-- of any function of three
 module _ {A : Type 0} (g : A → A → A → A) where
   pub three-length : (a b c : List A) → length a ≡ length b → length b ≡ length c → length (of_three g a b c) ≡ length a
   three-length [] b c e d = refl
@@ -75,9 +76,6 @@ xored-bits (x ∷ a) (y ∷ b) (z ∷ c) ha hb hc =
     let first = xor_of_bits x y lx ly in
     let both = xor_of_bits (bit_xor x y) z (omega (arith, first)) (legal_head 1 z c hc) in
     rw (both, first, xored-bits a b c (legal-tail 1 x a ha) (legal-tail 1 y b hb) (legal-tail 1 z c hc))
-
-pub xored-legal : (a b c : List ℕ) → all_bits a ≡ true → all_bits b ≡ true → all_bits c ≡ true → all_bits (xored a b c) ≡ true
-xored-legal a b c ha hb hc = ap all_bits (xored-bits a b c ha hb hc) ∙ ⊕*-bits (a ⊕* b) c
 
 -- of words, and of their bits
 module _ (width : ℕ) where

@@ -3,7 +3,7 @@ use mathlib.Core.Path.{◌≡◌, refl, sym, ap, subst, ◌∙◌}
 use mathlib.Core.Bool.{true}
 use mathlib.Core.List.{List, [], ◌∷◌, ◌++◌, append_assoc, append-nil}
 use Prim.Native.Nat.{ℕ, zero, suc, ◌+◌, ◌-◌, ◌*◌, ◌≤◌, ◌<◌}
-use native.Mathlib.Nat.{mul-le-mul_right}
+use native.Mathlib.Nat.{suc-mul, mul-le-mul_right}
 use native.Mathlib.Omega.{arith}
 use borrow.Author.Tests.{eq-eqb, ne_eqb, leb-true, leb-false, ltb-true, ltb-false}
 use lib.Dec.{leb, ltb}
@@ -127,5 +127,5 @@ module _ (f : ℕ) (known : is_format f ≡ true) (n : ℕ) (least : least_frame
           omega (arith, ap length (s.kept.order ∙ ap stream r.accepted), length-append (joined c.blocks) wait, joined-long size c.blocks s.long, length-take-le c.slicer.waiting c.memory s.kept.there) in
           by_cases (leb sections (length c.blocks))
           (λ t. leb-true _ _ t)
-          (λ l. let few : length c.blocks ≤ 15 = omega (arith, leb-false _ _ l) in
-          absurd (omega (arith, count, bits, r.few, mul-le-mul_right size few)))
+          (λ l. let few : suc (length c.blocks) ≤ sections = leb-false _ _ l in
+          absurd (omega (arith, count, bits, r.few, suc-mul (length c.blocks) size, mul-le-mul_right size few)))

@@ -68,7 +68,7 @@ module _ {f : ℕ} {frames blocks : List (List ℕ)} (t : Through f frames block
   order : joined blocks ++ wait ≡ stream frames
   order = ap (λ (l : List (List ℕ)). joined l ++ wait) (sym t.handed) ∙ s.kept.order ∙ ap stream t.accepted
 
-  pub blocks-long : All (Long k) blocks
+  blocks-long : All (Long k) blocks
   blocks-long = subst (All (Long k)) t.handed s.long
 
   -- every block is one of K bits
