@@ -65,6 +65,10 @@ legal-at top [] e k = zero-le
 legal-at top (x ∷ l) e zero = legal_head top x l e
 legal-at top (x ∷ l) e (suc k) = legal-at top l (legal-tail top x l e) k
 
+pub legal_of : (top : ℕ) (l : List ℕ) → ((k : ℕ) → get_or l k 0 ≤ top) → all_at_most top l ≡ true
+legal_of top [] h = refl
+legal_of top (x ∷ l) h = rw (le-leb x top (h 0)) (legal_of top l (λ k. h (suc k)))
+
 pub legal-front : (top : ℕ) (a b : List ℕ) → all_at_most top (a ++ b) ≡ true → all_at_most top a ≡ true
 legal-front top a b e = left-true (all_at_most top a) (all_at_most top b) (rw (legal-both top a b) at e)
 

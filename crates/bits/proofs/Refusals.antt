@@ -25,6 +25,8 @@ above_passed refusal.Pilots = omega arith
 above_passed refusal.Memory = omega arith
 above_passed refusal.Code = omega arith
 above_passed refusal.WayBack = omega arith
+above_passed refusal.Capture = omega arith
+above_passed refusal.Coordinate = omega arith
 
 pub not_passed : (r : Refusal) → check_number r ≡ passed → ⊥
 not_passed r e = omega (arith, above_passed r)

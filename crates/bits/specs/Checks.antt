@@ -57,6 +57,12 @@ bad_code = 16
 abbrev pub no_way_back : ℕ
 no_way_back = 17
 
+abbrev pub bad_capture : ℕ
+bad_capture = 18
+
+abbrev pub bad_coordinate : ℕ
+bad_coordinate = 19
+
 -- a check: whether it holds, and its number
 pub record Check : Type 0 where
   pub holds : Bool
@@ -90,6 +96,8 @@ check_number refusal.Pilots = bad_pilots
 check_number refusal.Memory = short_memory
 check_number refusal.Code = bad_code
 check_number refusal.WayBack = no_way_back
+check_number refusal.Capture = bad_capture
+check_number refusal.Coordinate = bad_coordinate
 
 -- the number of an answer, whatever else it tells
 abbrev pub number_of : {A : Type 0} → Result A Refusal → ℕ

@@ -39,6 +39,10 @@ pub enum Refusal {
     Code = 16,
     // The job line can go back to the old form: pilots are 0, and there is no code number.
     WayBack = 17,
+    // The capture is the text of 8,100 samples.
+    Capture = 18,
+    // Each coordinate of the capture is a number from -2 to 2.
+    Coordinate = 19,
 }
 
 // The check's number: the enum's own, which `as` reads.

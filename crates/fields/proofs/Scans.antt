@@ -8,13 +8,10 @@ use native.Mathlib.Omega.{arith}
 use borrow.Author.Tests.{ltb-true, ltb-false}
 use lib.Dec.{eqb, ltb}
 use lib.ListN.{length}
-use lib.Pointwise.{pointwise}
 use Rattle.std.specs.Prelude.{Some, None, IsTrue, ◌==◌, position}
 use Rattle.std.specs.List.{All, position_or_len}
 use Rattle.std.proofs.lemmas.List.Recursion.{is_position_or_len}
-use Rattle.std.proofs.Common.{nat_eq}
 use Rattle.bits.specs.Place.{place}
-use Rattle.bits.specs.Same.{same}
 use Rattle.bits.proofs.Cases.{by_cases}
 use Rattle.bits.proofs.Places.{place-most}
 use Rattle.bits.proofs.Table.{left-true, right_true}
@@ -36,13 +33,6 @@ pub digits_checked : (checked : Bool) (text : List ℕ) → IsTrue checked ↔ A
 digits_checked true text h = sym (digits_each text (h.0 refl))
 digits_checked false text h =
     by_cases (all_digits text) (λ t. absurd (false≢true (h.1 (each_digit text t)))) (λ f. sym f)
-
--- std's `==` of texts
-pub same_found : (a b : List ℕ) → pointwise nat_eq a b ≡ same a b
-same_found [] [] = refl
-same_found [] (y ∷ b) = refl
-same_found (x ∷ a) [] = refl
-same_found (x ∷ a) (y ∷ b) = rw (same_found a b)
 
 -- the place of a byte is its position, and the text's length if it has none
 module _ (x : ℕ) (text : List ℕ) where

@@ -84,7 +84,7 @@ fn read_added(text: &[u8]) -> Option<Added>
     Some(Added { pilots, code })
 }
 
-#[tactic(auto, using(fields::proofs::Scans::same_found))]
+#[tactic(auto, using(bits::proofs::Same::same_found))]
 fn read_code(text: &[u8]) -> Option<Option<u64>>
     ensures { result ≡ code_read text.now }
 {

@@ -1,6 +1,6 @@
 -- The structs of the C interface: what the layer below answers, field by field. A refusal there has its number and 0 in every other field, and
 -- so has it here.
-use Rattle.std.specs.Prelude.{List, ℕ, ◌-◌, ◌*◌, ◌^◌, eqb, if◌then◌else◌, Option, Some, None}
+use Rattle.std.specs.Prelude.{List, ℕ, ◌-◌, ◌*◌, ◌^◌, eqb, if◌then◌else◌, Option, Some, None, unwrap_or}
 use Rattle.bits.specs.Checks.{passed}
 use Rattle.acm.specs.Formats as acm
 use Rattle.trellis.specs.Run.{Ran}
@@ -18,12 +18,14 @@ use Rattle.slicer.specs.declared.Slicer as below
 use Rattle.job_line.specs.Job as job
 use Rattle.job_moves.specs.Moves.{Moved}
 use Rattle.waveform.specs.Waveform as waveform
+use Rattle.capture.specs.Judgement as capture
 use Rattle.sccc.specs.declared.FormatInfo.{FormatInfo}
 use Rattle.sccc.specs.declared.Stepped.{Stepped}
 use Rattle.sccc.specs.declared.Interleaved.{Interleaved}
 use Rattle.sccc.specs.declared.SectionRange.{SectionRange}
 use Rattle.sccc.specs.declared.Comparison.{Comparison}
 use Rattle.sccc.specs.declared.channels.SharedAnswer.{SharedAnswer}
+use Rattle.sccc.specs.declared.judging.Judgement.{Judgement}
 use Rattle.sccc.specs.declared.lines.JobAnswer.{JobAnswer}
 use Rattle.sccc.specs.declared.lines.LineAnswer.{LineAnswer}
 use Rattle.sccc.specs.declared.machine.SegmentStates.{SegmentStates}
@@ -125,3 +127,20 @@ code_of word = if eqb word unscrambled then None else Some word
 
 abbrev pub point_struct : waveform.Answer → PointAnswer
 point_struct a = record { number = a.number; i = a.point.i; q = a.point.q }
+
+-- none is 1 where nothing differs, and first is then 0
+abbrev pub told_none : Option ℕ → ℕ
+told_none None = 1
+told_none (Some first) = 0
+
+abbrev pub judgement_struct : capture.Answer → Judgement
+judgement_struct a =
+    let j = a.judgement in
+    record {
+      number = a.number;
+      agreeing = j.agreeing;
+      differing = j.differing;
+      lost = j.lost;
+      none = if eqb a.number passed then told_none j.first else 0;
+      first = unwrap_or j.first 0;
+    }

@@ -23,6 +23,7 @@ use interleaver::{InterleavedPosition, Source, UpperPosition};
 use trellis::Step;
 
 pub mod channels;
+pub mod judging;
 pub mod lines;
 pub mod machine;
 pub mod run;

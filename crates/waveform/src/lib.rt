@@ -6,7 +6,7 @@ ghost use Rattle.bits.specs.Checks.{number_of};
 ghost use Rattle.bits.specs.Legal.{all_at_most};
 ghost use Rattle.m_sequences.specs.MSequences.{period};
 ghost use Rattle.waveform.specs.Generators.{generated, generated_coordinates, generator_of};
-ghost use Rattle.waveform.specs.Waveform.{answer_of, last_label, places, point_number, pointed, points_number, points_output};
+ghost use Rattle.waveform.specs.Waveform.{answer_of, has_points, last_label, places, point_number, pointed, points_number, points_output};
 
 use bits::Refusal;
 use constellation::Point;
@@ -22,6 +22,13 @@ const LAST_LABEL: u16 = 255;
 
 // Places behind the header.
 const PLACES: u64 = 133760;
+
+// Whether a format's labels are points of the table.
+pub fn has_points(format: u64) -> bool
+    ensures { result ≡ has_points format }
+{
+    (FIRST..=LAST).contains(&format)
+}
 
 // The point of a symbol: its slot's, a label, turned where there is a code number. The place of the first symbol behind the header is 0.
 // Checks: 1, the format is 33 to 37; 3, the slot is at most 255; 16, the code number, if there is one; 8, the place is below 133,760.
@@ -44,7 +51,7 @@ fn check_point(
     ensures number { number_of result ≡ point_number format slot code place }
     ensures known { IfOk result (λ r. (r.0 ≡ slot) × (option_map (λ c. c.number) r.1 ≡ code) × (place < places)) }
 {
-    if !(FIRST..=LAST).contains(&format) {
+    if !has_points(format) {
         return Err(Refusal::Format);
     }
     let Ok(label) = u8::try_from(slot) else {
@@ -88,7 +95,7 @@ fn check_points(
     ensures number { number_of result ≡ points_number format slots.now code place room }
     ensures known { IfOk result (λ code_of. (option_map (λ c. c.number) code_of ≡ code) × (all_at_most last_label slots.now ≡ true) × (place + length slots.now ≤ places) × (2 * length slots.now ≤ room)) }
 {
-    if !(FIRST..=LAST).contains(&format) {
+    if !has_points(format) {
         return Err(Refusal::Format);
     }
     if !are_labels(slots) {

@@ -1,0 +1,3 @@
+pub mod Checked
+pub mod Tallies
+pub mod Texts

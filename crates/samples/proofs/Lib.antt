@@ -1,0 +1,5 @@
+pub mod Lines
+pub mod Pairs
+pub mod Texts
+pub mod Words
+pub mod Written
