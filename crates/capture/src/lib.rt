@@ -90,7 +90,7 @@ impl Judgement {
                 ..self
             },
             Sample::Pair(i, q) => {
-                if nearest::label(i, q) == label {
+                if nearest::label(i, q) == usize::from(label) {
                     Judgement {
                         agreeing: self.agreeing + 1,
                         ..self

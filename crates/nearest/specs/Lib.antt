@@ -1,1 +1,2 @@
 pub mod Nearest
+pub mod Search

@@ -1,33 +1,33 @@
 use mathlib.Core.Path.{◌≡◌, sym, ap, ◌∙◌}
-use Prim.Native.Nat.{◌+◌}
+use Prim.Native.Nat.{◌+◌, ◌*◌}
 use native.Mathlib.Omega.{arith}
-use Rattle.nearest.specs.Nearest.{distance as distance_of, distance_to, least, nearest_label, points}
-use Rattle.nearest.proofs.Turns.{least_first, least_less, least_stays}
-use Rattle.nearest.proofs.label.Goals.{then-d-least, else-d-least}
+use Rattle.nearest.specs.Nearest.{distance as distance_of, nearest_label, points}
+use Rattle.nearest.specs.Search.{nearest_of, row, some_nearer}
+use Rattle.nearest.proofs.Turns.{none_yet, row_stays}
+use Rattle.nearest.proofs.label.Goals.{then-has_nearer, else-has_nearer}
 use Rattle.nearest.proofs.label.Goals as goal
 
-pub loop-label-init : goal.loop-label-init
-loop-label-init c = (least_first (distance_to c.args.i c.args.q), c.distance-least.ensures ∙ ap (distance_of c.args.i c.args.q) c.of.ensures)
+pub loop-k-init : goal.loop-k-init
+loop-k-init c =
+    ap (λ x. record { label = 0; distance = x }) (c.distance.ensures ∙ ap (distance_of c.args.i c.args.q) c.of.ensures) ∙ sym (none_yet c.args.i c.args.q)
 
--- the label has been held against those before it
-pub loop-label-preserved : goal.loop-label-preserved
-loop-label-preserved c =
-    let d = distance_to c.args.i c.args.q in
-    let (is, at) = c.loop-label.invariant in
-    let new = c.distance-d.ensures ∙ ap (distance_of c.args.i c.args.q) c.of-in-loop-label.ensures in
-    elim c.if-d-least.branch [
-      | then-d-least w ↦ (w.nearest-is ∙ least_less d _ _ _ _ is at new w.if-d-least.true, w.least-is ∙ new ∙ ap d (sym w.nearest-is))
-      | else-d-least w ↦ (w.nearest-is ∙ least_stays d _ _ _ _ is at new w.if-d-least.false, w.least-is ∙ at ∙ ap d (sym w.nearest-is))
+pub loop-k-preserved : goal.loop-k-preserved
+loop-k-preserved c =
+    let i = c.args.i in
+    let q = c.args.q in
+    let first = row * c.loop-k.k in
+    let before = c.loop-k.invariant in
+    let next : first + row ≡ row * (c.loop-k.k + 1) = omega arith in
+    elim c.if-has_nearer.branch [
+      | then-has_nearer w ↦ w.nearest-is ∙ w.with_row-nearest.ensures ∙ ap (nearest_of i q) next
+      | else-has_nearer w ↦
+          w.nearest-is ∙ before
+          ∙ row_stays i q first row (ap (λ m. some_nearer i q first row m.distance) (sym before) ∙ sym c.has_nearer.ensures ∙ w.if-has_nearer.false)
+          ∙ ap (nearest_of i q) next
     ]
 
-pub returns-after-d-least : goal.returns-after-d-least
+pub returns : goal.returns
 unfolding nearest_label
-returns-after-d-least c =
-    let d = distance_to c.args.i c.args.q in
-    let (is, at) = c.loop-label.invariant in
-    let new = c.distance-d.ensures ∙ ap (distance_of c.args.i c.args.q) c.of-in-loop-label.ensures in
-    let last : c.loop-label.label + 1 ≡ points = omega arith in
-    elim c.if-d-least.branch [
-      | then-d-least w ↦ w.nearest-is ∙ least_less d _ _ _ _ is at new w.if-d-least.true ∙ ap (least d) last
-      | else-d-least w ↦ w.nearest-is ∙ least_stays d _ _ _ _ is at new w.if-d-least.false ∙ ap (least d) last
-    ]
+returns c =
+    let all : row * c.loop-k.k ≡ points = omega arith in
+    ap (λ m. m.label) (c.loop-k.invariant ∙ ap (nearest_of c.args.i c.args.q) all)
