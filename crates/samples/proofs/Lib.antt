@@ -1,3 +1,4 @@
+pub mod DigitTable
 pub mod Lines
 pub mod Pairs
 pub mod Texts

@@ -5,6 +5,7 @@ ghost use Rattle.std.specs.Prelude.{◌≡◌};
 ghost use Rattle.samples.specs.Samples.{number_in_range, sample_in_range};
 
 pub mod steps;
+mod values;
 
 // What was seen of a symbol: nothing, or an in-phase and a quadrature coordinate.
 #[derive(Clone, Copy, Debug)]
