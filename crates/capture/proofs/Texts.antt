@@ -46,7 +46,7 @@ module _ {n : ℕ} {labels text : List ℕ} {k : ℕ} {t : Tally} {rest : List �
         counted = one_more t.judgement k (get_or labels k 0) sample ∙ ap (λ j. j + 1) l.counted;
       }
 
-length-samples : (n : ℕ) (text : List ℕ) → length (samples_in n text) ≡ n
+pub length-samples : (n : ℕ) (text : List ℕ) → length (samples_in n text) ≡ n
 length-samples n text = length-map (lines_in n text) sample_of ∙ length-lines n text
 
 same_none : (text : List ℕ) → same text [] ≡ (length text == 0)

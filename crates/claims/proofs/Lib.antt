@@ -4,6 +4,7 @@ pub mod Demand3
 pub mod Extension
 pub mod Goes
 pub mod JobLine
+pub mod Judging
 pub mod Look
 pub mod Pilots
 pub mod Readings

@@ -2,6 +2,7 @@ pub mod Comparison
 pub mod Demand3
 pub mod Extension
 pub mod JobLine
+pub mod Judging
 pub mod Look
 pub mod Pilots
 pub mod Readings

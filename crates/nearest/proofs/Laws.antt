@@ -3,12 +3,12 @@ use mathlib.Core.Path.{◌≡◌, refl}
 use mathlib.Core.Bool.{Bool, true, false, ◌&&◌}
 use Prim.Native.Nat.{ℕ, zero, suc, ◌<◌}
 use native.Mathlib.Omega.{arith}
-use lib.Dec.{eqb}
+use lib.Dec.{eqb, ltb}
 use lib.Ieee.{Float, nan, inf, fin, lt, round}
 use Rattle.std.specs.Float.{NotNan, ◌≤ᶠ◌, ◌<ᶠ◌}
 use Rattle.std.specs.Prelude.{if◌then◌else◌}
-use Rattle.std.proofs.lemmas.Float.{T_from_true, T_from_false, le_refl, le_of_lt, le_of_not-lt, lt_of_lt_of_le}
-use borrow.Author.Tests.{eqb-true, eqb-false}
+use Rattle.std.proofs.lemmas.Float.{T_from_true, T_from_false, le_refl, le_of_lt, le_of_not-lt, lt_of_lt_of_le, lt_irrefl}
+use borrow.Author.Tests.{eqb-true, eqb-false, ltb-true, ltb-false}
 use Rattle.bits.proofs.Cases.{by_cases}
 use Rattle.bits.proofs.Table.{below_at, left-true, right_true}
 use Rattle.constellation.specs.Table.{entries}
@@ -87,3 +87,15 @@ module _ (i q : Float) (fi : Finite i) (fq : Finite q) where
   pub nearest_least : Least (distance_to i q) points (nearest_label i q)
   unfolding nearest_label
   nearest_least = least_is (distance_to i q) 255 distance_to-number
+
+-- there is no other such place
+pub least_once : (d : ℕ → Float) (n r s : ℕ) → Least d n r → Least d n s → r ≡ s
+least_once d n r s a b =
+    by_cases
+    (ltb r s)
+    (λ t. absurd (lt_irrefl _ (lt_of_lt_of_le _ _ _ (b.below r (ltb-true r s t)) (a.at_most s b.inside))))
+    (λ f.
+    by_cases
+    (ltb s r)
+    (λ t. absurd (lt_irrefl _ (lt_of_lt_of_le _ _ _ (a.below s (ltb-true s r t)) (b.at_most r a.inside))))
+    (λ g. omega (arith, ltb-false r s f, ltb-false s r g)))

@@ -1,7 +1,7 @@
 -- A text is that of n samples exactly if the reader finds it so, and then it finds the lines of which it is, and no others.
 use mathlib.Core.Path.{◌≡◌, refl, sym, ap, ap₂, subst, ◌∙◌}
 use mathlib.Core.Bool.{true, false, false≢true}
-use mathlib.Core.List.{List, [], ◌∷◌, ◌++◌, append_assoc}
+use mathlib.Core.List.{List, [], ◌∷◌, ◌++◌, append_assoc, map}
 use mathlib.Core.Logic.{◌↔◌}
 use Prim.Native.Nat.{ℕ, zero, suc, ◌+◌, ◌^◌, ◌≤◌, ◌<◌}
 use Prim.Native.Char.{code}
@@ -18,7 +18,7 @@ use Rattle.bits.proofs.Cases.{by_cases}
 use Rattle.bits.proofs.Same.{same_self, same-equal}
 use Rattle.bits.proofs.Table.{left-true, right_true}
 use Rattle.samples.specs.Reader.{is_digit, pair_bytes}
-use Rattle.samples.specs.Text.{Line, TextOf, begins, digits, hexadecimal, is_text, line_fits, line_in, line_text, lines_in, pair_in, text_of, word_fits, word_in}
+use Rattle.samples.specs.Text.{Line, TextOf, begins, digits, hexadecimal, is_text, line_fits, line_in, line_text, lines_in, pair_in, sample_of, samples_in, text_of, word_fits, word_in}
 use Rattle.samples.proofs.Lines.{length-pair, pair-front}
 use Rattle.samples.proofs.Pairs.{Written, first, second, written}
 use Rattle.samples.proofs.Texts.{text_next}
@@ -124,12 +124,18 @@ unfolding lines_in
 length-lines zero text = refl
 length-lines (suc n) text = ap suc (length-lines n _)
 
+-- the lines of which a text is are those that the reader finds, and so are its samples
+module _ (n : ℕ) (text : List ℕ) (o : TextOf n text) where
+  lines_are : lines_in n text ≡ o.lines
+  lines_are = ap₂ lines_in (sym o.many) o.written ∙ lines_found o.lines o.fit
+
+  pub samples_are : samples_in n text ≡ map sample_of o.lines
+  samples_are = ap (map sample_of) lines_are
+
 pub text_agrees : (n : ℕ) (text : List ℕ) → (is_text n text ≡ true) ↔ TextOf n text
 unfolding is_text
 text_agrees n text = (
   (λ t. record { lines = lines_in n text; many = length-lines n text; fit = all_fit n text t; written = same-equal text _ t }),
   (λ o.
-      let found : lines_in n text ≡ o.lines =
-      ap₂ lines_in (sym o.many) o.written ∙ lines_found o.lines o.fit in
-      ap (λ l. same text (text_of l)) found ∙ ap (same text) (sym o.written) ∙ same_self text),
+      ap (λ l. same text (text_of l)) (lines_are n text o) ∙ ap (same text) (sym o.written) ∙ same_self text),
 )
