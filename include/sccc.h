@@ -2,14 +2,16 @@
  * sccc.h: the SCCC encoder of CCSDS 131.2-O-1 and of its extension CCSDS 131.21-O-1 (SCCC-X, here
  * document 004: formats 28 to 37) for C and C++, from transfer frames to information blocks, from a
  * block to its codeword, the codeword's labels and a frame with or without pilots, a comparison of
- * two label lists, the job lines of a bench, and for a signal generator the points of formats 33 to
- * 37. Link build/libsccc.a or build/libsccc.so (x86-64 Linux).
+ * two label lists, the job lines of a bench, and of formats 33 to 37 the points for a signal
+ * generator and the judgement of a captured unit. Link build/libsccc.a or build/libsccc.so (x86-64
+ * Linux).
  *
  * Data      A bit is a byte, 0 or 1. A label is a byte below 2^m. A slot of a frame is a uint16_t,
  *           and so are a cut of a trellis' input and an entry of an interleaver's memory. An octet
- *           of a transfer frame is a byte, and so is a character of a job line (ASCII). A point's
- *           coordinates are doubles. Places and positions count from 0. K, K1, I, W, N and m are
- *           those of the ACM format; K1 is K in formats 1 to 27, less in the others.
+ *           of a transfer frame is a byte, and so is a character of a job line or of a capture
+ *           (ASCII). A point's coordinates are doubles. Places and positions count from 0. K, K1,
+ *           I, W, N and m are those of the ACM format; K1 is K in formats 1 to 27, less in the
+ *           others.
  *
  * Answers   A call makes its checks in the order that is given with it. The number of the first
  *           one that fails is the answer, 0 if none does. Every argument has an answer: a number
@@ -46,7 +48,8 @@ extern "C" {
 
 /* The checks' numbers. */
 #define SCCC_PASSED 0           /* every check holds */
-#define SCCC_BAD_FORMAT 1       /* the format is not 1 to 37, for a point not 33 to 37 */
+#define SCCC_BAD_FORMAT 1       /* the format is not 1 to 37, for a point or a capture not 33 to
+                                   37 */
 #define SCCC_BAD_LENGTH 2       /* a list is not as long as the call takes, or too many bits wait */
 #define SCCC_BAD_ELEMENT 3      /* a bit is not 0 or 1, a label not below 2^m, a state not 0 to 3,
                                    an entry of a memory not its position's, a point's slot not 0
@@ -65,6 +68,8 @@ extern "C" {
 #define SCCC_SHORT_MEMORY 15    /* the interleaver's memory is too short */
 #define SCCC_BAD_CODE 16        /* the code number is above 262,142 */
 #define SCCC_NO_WAY_BACK 17     /* the job line has pilots or a code number, and cannot go back */
+#define SCCC_BAD_CAPTURE 18     /* the capture is not 8,100 well-formed lines */
+#define SCCC_BAD_COORDINATE 19  /* a coordinate of the capture is not a number from -2 to 2 */
 
 /* Sizes that all formats share, and the largest of those that they do not. */
 #define SCCC_FORMATS 37          /* the formats are 1 to 37 */
@@ -98,9 +103,12 @@ extern "C" {
 #define SCCC_UNSCRAMBLED UINT64_MAX /* and this stands for none */
 
 /* The points' formats and labels, and the places of symbols. */
-#define SCCC_FIRST_POINT_FORMAT 33 /* points are of formats 33 to 37 */
+#define SCCC_FIRST_POINT_FORMAT 33 /* points and captures are of formats 33 to 37 */
 #define SCCC_POINTS 256            /* one for each label */
 #define SCCC_POINT_PLACES 133760   /* places are below this */
+
+/* The capture's size. */
+#define SCCC_LONGEST_CAPTURE 275400 /* bytes of a capture, at most: 8,100 lines of 34 */
 
 /*
  * provisional: 1 where the interleaver has rows that stand in for published ones, else 0
@@ -186,6 +194,11 @@ typedef struct {
     uint64_t number;
     double i, q;
 } sccc_point_answer;
+
+/* samples that agree, differ and are lost; none: 1 where none differs, and first is then 0 */
+typedef struct {
+    uint64_t number, agreeing, differing, lost, none, first;
+} sccc_judgement;
 
 /*
  * sccc_format: an ACM format's parameters (tables 4-1, 4-3; 004, tables 3-1, 4-1, 5-3).
@@ -563,6 +576,33 @@ sccc_point_answer sccc_point(uint64_t format, uint64_t slot, uint64_t code, uint
  */
 uint8_t sccc_points(uint64_t format, const uint16_t *slots, size_t slots_len, uint64_t code,
                     uint64_t place, double *out, size_t out_len);
+
+/*
+ * sccc_judge: what a modulator sent, held against the labels of one codeword.
+ *
+ * A capture is a text of one line for each label, in order, each ended by a line feed. A line is
+ * LOST, or the two coordinates of a sample, in-phase first, with a comma between: of each double
+ * its bits, in 16 hexadecimal digits, 0 to 9 and A to F, heaviest first. The samples are held
+ * against points that are not turned, so those of a scrambled unit have to be turned back first.
+ *
+ * Computes  of each sample that is not lost, the label whose point is nearest: the sample agrees if
+ *           that is the label at its place, and else it differs. Distances are squared, and rounded
+ *           to the nearest double at each operation: two subtractions, two squares and their sum.
+ *           Of labels that are equally near the lowest is taken. labels and capture may overlap,
+ *           since neither is written.
+ * Checks    1   the format is 33 to 37
+ *           2   labels_len is 8,100
+ *           3   each element of labels is below 2^m; m is 8, so each is
+ *           18  capture is 8,100 such lines, and nothing else
+ *           19  each coordinate is a number from -2 to 2, -0.0 and subnormal ones among them: no
+ *               infinity, no NaN
+ * Success   number is 0. agreeing, differing and lost are the numbers of samples that agree, differ
+ *           and are lost, 8,100 in all. Where none differs, none is 1 and first 0; else none is 0,
+ *           and first is the first place at which one differs.
+ * Refusal   number is the check's, and every other field is 0.
+ */
+sccc_judgement sccc_judge(uint64_t format, const uint8_t *labels, size_t labels_len,
+                          const uint8_t *capture, size_t capture_len);
 
 #ifdef __cplusplus
 }
