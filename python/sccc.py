@@ -401,7 +401,10 @@ def constellation() -> str:
     """A drawing of table 5-2 to scale, as the text of an SVG file: the points that are not turned, each with its label, on their
     eight rings. It is kept as docs/constellation.svg."""
     points = [point(FIRST_POINT_FORMAT, label, None, 0) for label in range(POINTS)]
-    parts = [_drawn_paper(), _drawn_axes(), _drawn_numbers(), _drawn_rings(), _drawn_dots(points), _drawn_labels(points)]
+    title = "256APSK, the constellation of formats 33 to 37"
+    plot = _Plot(_EXTENT)
+    parts = [_drawn_paper(title, f"{title}: points and their labels, hexadecimal", 1440), *_drawn_frame(plot)]
+    parts += [_drawn_dots(plot, points, 'fill="#1f4e9c"'), _drawn_labels(plot, points)]
     return "\n".join([*parts, "</svg>", ""])
 
 
@@ -749,78 +752,96 @@ def _address(view: memoryview) -> int:
     return address
 
 
-# The drawing of the constellation. Its plot reaches this far along either axis, has this scale, and begins here.
-_EXTENT = 1.5
-_SCALE = 420
+# The drawings. A plot begins here on its sheet, and is so wide and so high.
 _LEFT, _TOP = 100, 80
-_SIDE = round(2 * _EXTENT * _SCALE)
-_NUMBERED = [fifths / 5 for fifths in range(-7, 8)]
+_SIDE = 1260
+#: what the plot reaches to along either axis, for the constellation
+_EXTENT = 1.5
 _RINGS = 8
 
 
-def _across(i: float) -> float:
-    return _LEFT + _SCALE * (_EXTENT + i)
+class _Plot(NamedTuple):
+    """A plot that reaches so far along either axis, and where it has its coordinates on the sheet."""
 
+    extent: float
 
-def _down(q: float) -> float:
-    return _TOP + _SCALE * (_EXTENT - q)
+    @property
+    def scale(self) -> float:
+        return _SIDE / (2 * self.extent)
+
+    @property
+    def numbered(self) -> List[float]:
+        """The fifths along an axis."""
+        last = int(5 * self.extent)
+        return [fifths / 5 for fifths in range(-last, last + 1)]
+
+    def across(self, i: float) -> float:
+        return _LEFT + self.scale * (self.extent + i)
+
+    def down(self, q: float) -> float:
+        return _TOP + self.scale * (self.extent - q)
 
 
 def _group(attributes: str, parts: List[str]) -> str:
     return "\n".join([f"<g {attributes}>", *parts, "</g>"])
 
 
-def _drawn_paper() -> str:
-    """The beginning of the file, the sheet and its title."""
+def _drawn_paper(title: str, heading: str, height: int) -> str:
+    """The beginning of the file, the sheet and what stands over the plot."""
     return f"""\
-<svg xmlns="http://www.w3.org/2000/svg" width="1400" height="1440" viewBox="0 0 1400 1440" font-family="sans-serif" fill="#222">
-<title>256APSK, the constellation of formats 33 to 37</title>
-<rect width="1400" height="1440" fill="#fff"/>
-<text x="{_across(0):.0f}" y="48" font-size="28" text-anchor="middle">256APSK, the constellation of formats 33 to 37: \
-points and their labels, hexadecimal</text>"""
+<svg xmlns="http://www.w3.org/2000/svg" width="1400" height="{height}" viewBox="0 0 1400 {height}" font-family="sans-serif" fill="#222">
+<title>{title}</title>
+<rect width="1400" height="{height}" fill="#fff"/>
+<text x="{_LEFT + _SIDE / 2:.0f}" y="48" font-size="28" text-anchor="middle">{heading}</text>"""
 
 
-def _drawn_axes() -> str:
+def _drawn_frame(plot: _Plot) -> List[str]:
+    """What the points stand in."""
+    return [_drawn_axes(plot), _drawn_numbers(plot), _drawn_rings(plot)]
+
+
+def _drawn_axes(plot: _Plot) -> str:
     """The plot's border, the axes through its middle, and marks along the border where the numbers stand."""
     bottom = _TOP + _SIDE
-    marks = " ".join(f"M {_across(x):.0f} {bottom} v -8 M {_LEFT} {_down(x):.0f} h 8" for x in _NUMBERED)
+    marks = " ".join(f"M {plot.across(x):.0f} {bottom} v -8 M {_LEFT} {plot.down(x):.0f} h 8" for x in plot.numbered)
     parts = [
         f'<rect x="{_LEFT}" y="{_TOP}" width="{_SIDE}" height="{_SIDE}"/>',
-        f'<path d="M {_LEFT} {_down(0):.0f} h {_SIDE} M {_across(0):.0f} {_TOP} v {_SIDE}"/>',
+        f'<path d="M {_LEFT} {plot.down(0):.0f} h {_SIDE} M {plot.across(0):.0f} {_TOP} v {_SIDE}"/>',
         f'<path d="{marks}"/>',
     ]
     return _group('id="axes" fill="none" stroke="#bbb"', parts)
 
 
-def _drawn_numbers() -> str:
+def _drawn_numbers(plot: _Plot) -> str:
     """The axes' names, and the numbers along the border."""
     bottom = _TOP + _SIDE
     parts = [
-        f'<text x="{_across(0):.0f}" y="{bottom + 66}" font-size="24">in-phase</text>',
-        f'<text transform="translate(36 {_down(0):.0f}) rotate(-90)" font-size="24">quadrature</text>',
+        f'<text x="{plot.across(0):.0f}" y="{bottom + 66}" font-size="24">in-phase</text>',
+        f'<text transform="translate(36 {plot.down(0):.0f}) rotate(-90)" font-size="24">quadrature</text>',
     ]
-    for x in _NUMBERED:
+    for x in plot.numbered:
         number = f"{x:.1f}".replace("-", "\N{MINUS SIGN}")
-        parts.append(f'<text x="{_across(x):.0f}" y="{bottom + 28}">{number}</text>')
-        parts.append(f'<text x="{_LEFT - 12}" y="{_down(x) + 6:.0f}" text-anchor="end">{number}</text>')
+        parts.append(f'<text x="{plot.across(x):.0f}" y="{bottom + 28}">{number}</text>')
+        parts.append(f'<text x="{_LEFT - 12}" y="{plot.down(x) + 6:.0f}" text-anchor="end">{number}</text>')
     return _group('id="numbers" font-size="18" text-anchor="middle"', parts)
 
 
-def _drawn_rings() -> str:
+def _drawn_rings(plot: _Plot) -> str:
     """Circles whose radii are as 1 to 3, 5 and so on to 15, for a mean energy of 1 (004, 5.2.3)."""
-    circles = [f'<circle r="{_SCALE * (2 * k - 1) / math.sqrt(127):.3f}"/>' for k in range(1, _RINGS + 1)]
-    return _group(f'id="rings" fill="none" stroke="#bbb" transform="translate({_across(0):.0f} {_down(0):.0f})"', circles)
+    circles = [f'<circle r="{plot.scale * (2 * k - 1) / math.sqrt(127):.3f}"/>' for k in range(1, _RINGS + 1)]
+    middle = f"translate({plot.across(0):.0f} {plot.down(0):.0f})"
+    return _group(f'id="rings" fill="none" stroke="#bbb" transform="{middle}"', circles)
 
 
-def _drawn_dots(points: List[Point]) -> str:
-    dots = [f'<circle cx="{_across(p.i):.3f}" cy="{_down(p.q):.3f}" r="5"/>' for p in points]
-    return _group('id="dots" fill="#1f4e9c"', dots)
+def _drawn_dots(plot: _Plot, points: List[Point], style: str) -> str:
+    dots = [f'<circle cx="{plot.across(p.i):.3f}" cy="{plot.down(p.q):.3f}" r="5"/>' for p in points]
+    return _group(f'id="dots" {style}', dots)
 
 
-def _drawn_labels(points: List[Point]) -> str:
+def _drawn_labels(plot: _Plot, points: List[Point]) -> str:
     """Each label outside its dot, between the rings."""
     texts = []
     for label, p in enumerate(points):
         away = 1 + 0.062 / math.hypot(p.i, p.q)
-        texts.append(f'<text x="{_across(away * p.i):.1f}" y="{_down(away * p.q) + 7:.1f}">{label:02X}</text>')
+        texts.append(f'<text x="{plot.across(away * p.i):.1f}" y="{plot.down(away * p.q) + 7:.1f}">{label:02X}</text>')
     return _group('id="labels" font-family="monospace" font-size="20" text-anchor="middle"', texts)
