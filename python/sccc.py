@@ -9,7 +9,7 @@ Data. A bit is a byte, 0 or 1, a label a byte below 2^m, an octet of a transfer 
 the buffer protocol whose elements are one byte and lie in one piece: bytes, bytearray, memoryview, array.array, a numpy array of
 uint8 or bool. Nothing is copied. A call that writes takes the memory for it as out= (and work=), or allocates it, and returns a
 memoryview of what it wrote, which numpy.asarray takes as it is. Cuts are integers, in a list or anything else that yields them. Job
-lines are lent as bytes are, and come back as bytes. Coordinates of points are floats.
+lines and captures are lent as bytes are, and come back as bytes. Coordinates of points are floats.
 
 Refusals. A call makes the checks that include/sccc.h lists with it, in that order, and raises ScccError with the number of the
 first one that fails; memory lent to it is then as it was. Numbers of any size may be given: 257 is not format 1, nor is
@@ -31,6 +31,7 @@ import ctypes
 import math
 import operator
 import os
+import struct
 import sys
 from array import array
 from typing import Any, Iterable, Iterator, List, NamedTuple, Optional, SupportsIndex, Tuple, Union
@@ -43,10 +44,11 @@ else:
 __all__ = [
     "FORMATS", "SYMBOLS", "SECTIONS", "FRAME_LABELS", "FRAME_SLOTS", "PILOT_FRAME_SLOTS", "HEADER_SLOTS", "SUBSECTION_LABELS",
     "SUBSECTION_SLOTS", "PILOT", "SEGMENTS", "LEAST_TRANSFER_FRAME", "MOST_TRANSFER_FRAME", "WAITING_MEMORY", "MAX_I",
-    "LONGEST_OLD_LINE", "LONGEST_LINE", "LAST_CODE", "FIRST_POINT_FORMAT", "POINTS", "POINT_PLACES", "MEANINGS", "ScccError",
-    "FormatInfo", "Step", "Run", "SegmentStates", "Segments", "Comparison", "Look", "Job", "Point", "SharedEncoder", "Slicer",
-    "load", "format_info", "step", "run", "interleave", "encode", "encode_segments", "labels", "frame", "section", "compare",
-    "job", "lengthen", "shorten", "point", "points", "constellation",
+    "LONGEST_OLD_LINE", "LONGEST_LINE", "LAST_CODE", "FIRST_POINT_FORMAT", "POINTS", "POINT_PLACES", "LONGEST_CAPTURE",
+    "MEANINGS", "ScccError", "FormatInfo", "Step", "Run", "SegmentStates", "Segments", "Comparison", "Look", "Job", "Point",
+    "Judgement", "SharedEncoder", "Slicer", "load", "format_info", "step", "run", "interleave", "encode", "encode_segments",
+    "labels", "frame", "section", "compare", "job", "lengthen", "shorten", "point", "points", "constellation", "capture", "judge",
+    "picture",
 ]
 
 #: The formats are 1 to 37.
@@ -81,15 +83,17 @@ LONGEST_OLD_LINE = 8
 LONGEST_LINE = 19
 #: Code numbers are 0 to 262,142.
 LAST_CODE = 262142
-#: Points are of formats 33 to 37, one for each label.
+#: Points, one for each label, and captures are of formats 33 to 37.
 FIRST_POINT_FORMAT = 33
 POINTS = 256
 #: Places of symbols are below this.
 POINT_PLACES = 133760
+#: Bytes of a capture, at most: 8,100 lines of 34.
+LONGEST_CAPTURE = 275400
 
 #: What it means that the check of a number failed.
 MEANINGS = {
-    1: "the format is not 1 to 37, or for a point not 33 to 37",
+    1: "the format is not 1 to 37, or for a point or a capture not 33 to 37",
     2: "an input list is not exactly as long as the call takes, or more than 600,000 bits are said to wait",
     3: "a bit is not 0 or 1, a label not below 2^m, a state not 0 to 3, an entry of a memory not its position's, "
     "or a point's slot not 0 to 255",
@@ -107,6 +111,8 @@ MEANINGS = {
     15: "the interleaver's memory is too short",
     16: "the code number is above 262,142",
     17: "the job line has pilots or a code number, and cannot go back",
+    18: "the capture is not 8,100 well-formed lines",
+    19: "a coordinate of the capture is not a number from -2 to 2",
 }
 
 
@@ -207,6 +213,16 @@ class Point(NamedTuple):
 
     i: float
     q: float
+
+
+class Judgement(NamedTuple):
+    """How many samples of a capture agree with their labels, differ from them and are lost, 8,100 in all."""
+
+    agreeing: int
+    differing: int
+    lost: int
+    #: the first place at which a sample differs, None where none does
+    first: Optional[int]
 
 
 def load(path: Union[str, "os.PathLike[str]", None] = None) -> None:
@@ -403,9 +419,31 @@ def constellation() -> str:
     points = [point(FIRST_POINT_FORMAT, label, None, 0) for label in range(POINTS)]
     title = "256APSK, the constellation of formats 33 to 37"
     plot = _Plot(_EXTENT)
-    parts = [_drawn_paper(title, f"{title}: points and their labels, hexadecimal", 1440), *_drawn_frame(plot)]
+    parts = [_drawn_paper(title, f"{title}: points and their labels, hexadecimal", 1440), *_drawn_grid(plot)]
     parts += [_drawn_dots(plot, points, 'fill="#1f4e9c"'), _drawn_labels(plot, points)]
     return "\n".join([*parts, "</svg>", ""])
+
+
+def capture(samples: Iterable[Optional[Tuple[float, float]]]) -> bytes:
+    """The text of a capture, which judge takes: a line for each sample, which is a pair of coordinates, in-phase first, or None where
+    it is lost. Any pairs of floats are written, any number of them: what is no capture is refused by judge."""
+    return "".join(map(_line, samples)).encode()
+
+
+def judge(format: SupportsIndex, labels: Buffer, capture: Buffer) -> Judgement:
+    """What a modulator sent, held against the 8,100 labels of one codeword of formats 33 to 37. A capture is a text of 8,100 lines, one
+    for each label, each ended by a line feed: LOST, or the two coordinates of a sample, in-phase first, with a comma between, each the
+    16 hexadecimal digits of the float's bits, heaviest first, as in b"3FE3C01A36E2EB1C,BFB1CAC083126E98\\n".
+
+    A sample is read as the label whose point is nearest, and of labels that are equally near as the lowest. Points are as
+    point(format, label, None, 0) gives them, so the samples of a scrambled unit have to be turned back before.
+
+    Checks: 1, the format is 33 to 37; 2, there are 8,100 labels; 18, capture is 8,100 such lines and nothing else; 19, each coordinate
+    is a number from -2 to 2. Every byte is a label of these formats, so 3 never fails.
+    """
+    r = _loaded().sccc_judge(_number(format), *_lent(_view("labels", labels), _view("capture", capture)))
+    _pass(r.number)
+    return Judgement(r.agreeing, r.differing, r.lost, None if r.none else r.first)
 
 
 class SharedEncoder:
@@ -598,6 +636,10 @@ class _PointAnswer(ctypes.Structure):
     _fields_ = [("number", ctypes.c_uint64), ("i", ctypes.c_double), ("q", ctypes.c_double)]
 
 
+class _Judgement(ctypes.Structure):
+    _fields_ = [(name, ctypes.c_uint64) for name in ("number", "agreeing", "differing", "lost", "none", "first")]
+
+
 # The code number of what is unscrambled.
 _UNSCRAMBLED = 2**64 - 1
 
@@ -625,6 +667,7 @@ _PROTOTYPES = {
     "sccc_job_shorten": (_LineAnswer, _SLICE + _SLICE),
     "sccc_point": (_PointAnswer, _NUMBER + _NUMBER + _NUMBER + _NUMBER),
     "sccc_points": (ctypes.c_uint8, _NUMBER + _SLICE + _NUMBER + _NUMBER + _SLICE),
+    "sccc_judge": (_Judgement, _NUMBER + _SLICE + _SLICE),
 }
 _BUILT = os.path.join(os.path.dirname(os.path.dirname(os.path.abspath(__file__))), "build", "libsccc.so")
 _library: Optional[ctypes.CDLL] = None
@@ -680,6 +723,14 @@ def _moved(move: Any, line: Buffer, longest: int) -> bytes:
     r = move(*_lent(given, result, written=1))
     _pass(r.number)
     return bytes(result[: r.length])
+
+
+def _line(sample: Optional[Tuple[float, float]]) -> str:
+    """A sample's line in a capture."""
+    if sample is None:
+        return "LOST\n"
+    digits = struct.pack(">dd", *sample).hex().upper()
+    return f"{digits[:16]},{digits[16:]}\n"
 
 
 _KINDS = {"B": ("B", "b", "c", "?"), "H": ("H",), "d": ("d",)}
@@ -795,8 +846,8 @@ def _drawn_paper(title: str, heading: str, height: int) -> str:
 <text x="{_LEFT + _SIDE / 2:.0f}" y="48" font-size="28" text-anchor="middle">{heading}</text>"""
 
 
-def _drawn_frame(plot: _Plot) -> List[str]:
-    """What the points stand in."""
+def _drawn_grid(plot: _Plot) -> List[str]:
+    """What the points stand on."""
     return [_drawn_axes(plot), _drawn_numbers(plot), _drawn_rings(plot)]
 
 
