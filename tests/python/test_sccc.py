@@ -15,7 +15,7 @@ import unittest
 from array import array
 from concurrent.futures import ThreadPoolExecutor
 from functools import lru_cache
-from itertools import islice, product
+from itertools import cycle, islice, permutations, product
 from xml.etree import ElementTree
 
 import numpy
@@ -107,6 +107,17 @@ def turned(point, turns):
     """By annex E's table."""
     i, q = point
     return ((i, q), (-q, i), (-i, -q), (q, -i))[turns]
+
+
+def sample_line(i, q):
+    """Of a capture."""
+    return "{:016X},{:016X}\n".format(*struct.unpack(">QQ", struct.pack(">dd", i, q)))
+
+
+LOST_LINE = "LOST\n"
+#: a label, and the line of its point
+OTHER, OTHER_LINE = 47, sample_line(0.6172, 0.0695)
+ZERO, NAN = "0000000000000000", "7FF8000000000000"
 
 
 def filled(length):
@@ -1203,6 +1214,297 @@ class Constellation(Case):
         self.assertEqual([text.text for text in self.groups["numbers"]][:2], ["in-phase", "quadrature"])
 
 
+class Judgements(Case):
+    formats = range(33, sccc.FORMATS + 1)
+    labels = bytes(37 * place % 256 for place in range(sccc.SYMBOLS))
+
+    @classmethod
+    def setUpClass(cls):
+        cls.points = [sccc.point(33, label, None, 0) for label in range(sccc.POINTS)]
+        cls.due = [sample_line(*cls.points[label]) for label in cls.labels]
+
+    def nearest(self, samples):
+        """By numpy, operation by operation; of equals argmin takes the first."""
+        away = numpy.array(samples)[:, numpy.newaxis] - numpy.array(self.points)
+        squares = away * away
+        return bytes((squares[..., 0] + squares[..., 1]).argmin(axis=1).astype(numpy.uint8))
+
+    def test_points_are_read_as_their_labels(self):
+        text = "".join(self.due).encode()
+        for f in self.formats:
+            judgement = sccc.judge(f, self.labels, text)
+            self.assertEqual((type(judgement), judgement), (sccc.Judgement, (8100, 0, 0, None)))
+        for other in range(1, 256):
+            self.assertEqual(sccc.judge(33, bytes((label + other) % 256 for label in self.labels), text), (0, 8100, 0, 0))
+        self.assertEqual((judgement.agreeing, judgement.differing, judgement.lost, judgement.first), judgement)
+
+    def test_counts(self):
+        """Of each three samples one agrees, one differs and one is lost, in each order."""
+        for order in permutations(range(3)):
+            text = "".join((line, OTHER_LINE, LOST_LINE)[order[place % 3]] for place, line in enumerate(self.due)).encode()
+            labels = bytes(label if label != OTHER else 0 for label in self.labels)
+            agreeing = sum(order[place % 3] == 0 and label != OTHER for place, label in enumerate(self.labels))
+            self.assertEqual(sccc.judge(35, labels, text), (agreeing, 5400 - agreeing, 2700, order.index(1)))
+
+    def test_first_place(self):
+        """Lost samples before it do not count, nor how many follow."""
+        for place in (0, 1, 99, 4050, 8098, 8099):
+            lines = [LOST_LINE, *self.due[1:]]
+            lines[place] = sample_line(*self.points[self.labels[place] ^ 1])
+            lost = 1 if place else 0
+            self.assertEqual(sccc.judge(33, self.labels, "".join(lines).encode()), (8099 - lost, 1, lost, place))
+            labels = self.labels[: place + 1] + bytes(label ^ 1 for label in self.labels[place + 1 :])
+            judgement = sccc.judge(33, labels, "".join(lines).encode())
+            self.assertEqual(judgement, (place - lost, 8100 - place, lost, place))
+
+    def test_lost_samples(self):
+        for f, label in product(self.formats, (0, 127, 255)):
+            self.assertEqual(sccc.judge(f, bytes([label]) * 8100, LOST_LINE.encode() * 8100), (0, 0, 8100, None))
+
+    def test_nearest(self):
+        """All over the plane; on the axes, the diagonals and the border; and between any two neighbours, an ulp here or there."""
+        random = numpy.random.RandomState(14)
+        points = numpy.array(self.points)
+        along = numpy.linspace(-2, 2, 1013)
+        axes = [(x, 0.0) for x in along] + [(-0.0, x) for x in along] + [(x, x) for x in along] + [(x, -x) for x in along]
+        border = [corner for x in along for corner in ((x, 2.0), (x, -2.0), (2.0, x), (-2.0, x))]
+        between = [(points[a] + points[b]) / 2 for a in range(256) for b in range(a) if math.dist(points[a], points[b]) < 0.2]
+        between = [numpy.nextafter(middle, middle + random.randint(-1, 2, 2)) for middle in between * 20]
+        self.assertGreater(len(between), 8100)
+        for samples in (random.uniform(-2, 2, (8100, 2)), random.uniform(-0.3, 0.3, (8100, 2)), axes, border, between):
+            samples = numpy.resize(samples, (8100, 2))
+            text = "".join(sample_line(*sample) for sample in samples.tolist()).encode()
+            labels = self.nearest(samples)
+            self.assertGreater(len(set(labels)), 20)
+            self.assertEqual(sccc.judge(34, labels, text), (8100, 0, 0, None))
+            for place in (0, 8099):
+                wrong = bytearray(labels)
+                wrong[place] ^= 1
+                self.assertEqual(sccc.judge(34, wrong, text), (8099, 1, 0, place))
+
+    def test_equally_near(self):
+        """The points of the inner ring, 0.0627 off either axis, are of the labels 15, 45, 135 and 165, in the quadrants 1, 2, 4, 3.
+        A subnormal number is lost in 0.0627, so the rounded distances are equal where those before rounding are not."""
+        zeros = (0.0, -0.0, 5e-324, -5e-324)
+        for lowest, others, samples in (
+            (15, (45, 135, 165), product(zeros, zeros)),
+            (15, (45, 135, 165), product(zeros, (0.0627,))),
+            (15, (45, 135, 165), product((0.0627,), zeros)),
+            (45, (15, 135, 165), product((-0.0627,), zeros)),
+            (135, (15, 45, 165), product(zeros, (-0.0627,))),
+        ):
+            lines = [sample_line(*sample) for sample in samples]
+            text = "".join(islice(cycle(lines), 8100)).encode()
+            self.assertEqual(sccc.judge(33, bytes([lowest]) * 8100, text), (8100, 0, 0, None))
+            for label in others:
+                self.assertEqual(sccc.judge(33, bytes([label]) * 8100, text), (0, 8100, 0, 0))
+
+    def test_a_codeword(self):
+        """Of another codeword those samples differ whose labels do."""
+        for f in self.formats:
+            block = bytearray(seeded(f, sccc.format_info(f).k))
+            labels = bytes(sccc.labels(f, sccc.encode(f, block)))
+            points = sccc.points(f, array("H", list(labels)), None, 0)
+            text = sccc.capture(zip(points[::2], points[1::2]))
+            self.assertEqual(sccc.judge(f, labels, text), (8100, 0, 0, None))
+            block[len(block) // 2] ^= 1
+            other = sccc.labels(f, sccc.encode(f, block))
+            differing = sum(a != b for a, b in zip(labels, other))
+            self.assertEqual(sccc.judge(f, other, text), (8100 - differing, differing, 0, sccc.compare(f, labels, other).first))
+
+    def test_a_scrambled_unit_is_turned_back(self):
+        """By the turn of its place, which README tells from label 255."""
+        code, start = 5, 16200
+        sent = sccc.points(37, array("H", list(self.labels)), code, start)
+        samples = list(zip(sent[::2], sent[1::2]))
+        self.assertGreater(sccc.judge(37, self.labels, sccc.capture(samples)).differing, 4000)
+        signs = [(1, 1), (-1, 1), (-1, -1), (1, -1)]
+        for place, sample in enumerate(samples):
+            of_255 = sccc.point(37, 255, code, start + place)
+            turns = signs.index(tuple(int(math.copysign(1, x)) for x in of_255))
+            self.assertEqual(turns, quarter_turns(code, start + place))
+            samples[place] = turned(sample, (4 - turns) % 4)
+        self.assertEqual(sccc.judge(37, self.labels, sccc.capture(samples)), (8100, 0, 0, None))
+
+    def test_ends(self):
+        """Of every sign and exponent the least two numbers and the largest, in either coordinate: those from -2 to 2 pass."""
+        text = bytearray(LOST_LINE.encode() * 8099 + sample_line(1.0, 1.0).encode())
+        passed = 0
+        for top, rest in product(range(4096), ("0" * 13, "0" * 12 + "1", "F" * 13)):
+            digits = f"{top:03X}{rest}"
+            number = struct.unpack(">d", bytes.fromhex(digits))[0]
+            for i, q in ((digits, "3FE" + "0" * 13), ("0" * 16, digits)):
+                text[-34:] = f"{i},{q}\n".encode()
+                if -2 <= number <= 2:
+                    passed += 1
+                    judgement = sccc.judge(33, self.labels, text)
+                    self.assertEqual((judgement.agreeing + judgement.differing, judgement.lost), (1, 8099))
+                else:
+                    self.assertRefused(19, sccc.judge, 33, self.labels, text)
+        self.assertEqual(passed, 2 * 2 * (3 * 1024 + 1))
+
+    def test_refused_coordinates(self):
+        """Wherever one stands."""
+        for digits in (
+            *("4000000000000001", "C000000000000001", "4008000000000000", "7FEFFFFFFFFFFFFF", "FFEFFFFFFFFFFFFF"),
+            *("7FF0000000000000", "FFF0000000000000", "7FF0000000000001", "FFF0000000000001", "7FF8000000000000"),
+            *("FFF8000000000000", "7FFFFFFFFFFFFFFF", "FFFFFFFFFFFFFFFF"),
+        ):
+            for place, line in product((0, 4050, 8099), (f"{digits},{ZERO}\n", f"{ZERO},{digits}\n", f"{digits},{digits}\n")):
+                lines = self.due[:]
+                lines[place] = line
+                self.assertRefused(19, sccc.judge, 33, self.labels, "".join(lines).encode())
+
+    def assertNoCapture(self, text):
+        self.assertRefused(18, sccc.judge, 33, self.labels, text)
+
+    def test_every_byte_of_a_line(self):
+        """Of a lost sample each is the one that is due. Of a pair the digits may be others, and lower case is none."""
+        for line, before in product((LOST_LINE, sample_line(0.6172, -0.0695)), (0, 8099)):
+            text = bytearray("".join([LOST_LINE * before, line, LOST_LINE * (8099 - before)]).encode())
+            start = 5 * before
+            for place, due in enumerate(line.encode(), start):
+                is_digit = len(line) == 34 and place - start not in (16, 33)
+                for byte in range(256):
+                    text[place] = byte
+                    if byte != due and not (is_digit and byte in b"0123456789ABCDEF"):
+                        self.assertNoCapture(text)
+                        continue
+                    pair = bytes(text[start : start + len(line)]).decode().strip().split(",")
+                    inside = len(pair) == 1 or all(abs(struct.unpack(">d", bytes.fromhex(x))[0]) <= 2 for x in pair)
+                    if inside:
+                        self.assertEqual(sum(sccc.judge(33, self.labels, text)[:3]), 8100)
+                    else:
+                        self.assertRefused(19, sccc.judge, 33, self.labels, text)
+                text[place] = due
+
+    def test_lines_of_another_length(self):
+        """A byte left out or one too many, at each place of a line."""
+        for line, place in product((LOST_LINE, sample_line(0.6172, -0.0695)), (0, 8099)):
+            lines = [LOST_LINE] * 8100
+            for at in range(len(line)):
+                lines[place] = line[:at] + line[at + 1 :]
+                self.assertNoCapture("".join(lines).encode())
+                for more in "0F,\n\0 T":
+                    lines[place] = line[:at] + more + line[at:]
+                    self.assertNoCapture("".join(lines).encode())
+
+    def test_no_lines(self):
+        a = sample_line(0.6172, -0.0695)[:16]
+        for line in (
+            *("", " ", "\0", "LOST ", " LOST", "lost", "Lost", "LOS", "LOSTT", "LOST,LOST", f"LOST,{a}", f"{a},LOST", "L,OST"),
+            *(a, f"{a},", f",{a}", a + a, f"{a} {a}", f"{a};{a}", f"{a}, {a}", f"{a},,{a}", f"{a},{a},", f"{a},{a},{a}"),
+            *(f"{a},{a} ", f" {a},{a}", f"{a},{a}\r", "LOST\r", f"{a.lower()},{a}", f"{a},{a.lower()}", f"{a[1:]},{a}0"),
+            *(f"0{a},{a[1:]}", f"0x{a[2:]},{a}", f"+{a[1:]},{a}", "0.6172,-0.0695", f"{a[:15]}G,{a}", f"{a[:15]}/,{a}"),
+            *(f"{a[:15]}:,{a}", f"{a[:15]}@,{a}", f"{a[:8]} {a[8:]},{a}", "\ufeffLOST", "LOST\nLOST", f"{a}\n{a}", f"{a},\n{a}"),
+        ):
+            for place in (0, 4050, 8099):
+                lines = self.due[:]
+                lines[place] = line + "\n"
+                self.assertNoCapture("".join(lines).encode())
+
+    def test_ends_of_the_text(self):
+        lost, pairs = LOST_LINE.encode(), "".join(self.due).encode()
+        self.assertEqual(len(pairs), sccc.LONGEST_CAPTURE)
+        for text, line in ((lost * 8100, lost), (pairs, self.due[0].encode())):
+            self.assertEqual(sum(sccc.judge(33, self.labels, text)[:3]), 8100)
+            for other in (b"", b"\n", b"\n" * 8100, line, text[: -len(line)], text + line, text + text, b"\n" + text):
+                self.assertNoCapture(other)
+            for byte in range(256):
+                self.assertNoCapture(text + bytes([byte]))
+                self.assertNoCapture(bytes([byte]) + text)
+            for length in range(1, 40):
+                self.assertNoCapture(memoryview(text)[:-length])
+                self.assertNoCapture(memoryview(text)[length:])
+            self.assertNoCapture(text.replace(b"\n", b"\r\n"))
+            self.assertNoCapture(text.replace(b"\n", b"\n\n"))
+            self.assertNoCapture(text.replace(b"\n", b""))
+            self.assertNoCapture(text[:-1] + b"\r")
+        self.assertNoCapture(lost * 8099 + pairs[:33])
+        self.assertEqual(sccc.judge(33, self.labels, lost * 8099 + pairs[:34]).lost, 8099)
+
+    def test_the_first_check_that_fails(self):
+        """What comes after it fails too."""
+        outside = f"{NAN},{NAN}\n"
+        good, bad = "".join(self.due).encode(), (outside * 8099 + "lost\n").encode()
+        for f in (*NOT_FORMATS, 1, 13, 27, 28, 32, *(33 + 2**bits for bits in (8, 16, 32, 64))):
+            for labels, text in ((self.labels[1:], bad), (b"", b""), (self.labels, bad), (self.labels, good)):
+                self.assertRefused(1, sccc.judge, f, labels, text)
+        for labels in (b"", self.labels[1:], self.labels + b"\0", bytes(sccc.FRAME_LABELS)):
+            for text in (bad, b"", good):
+                self.assertRefused(2, sccc.judge, 33, labels, text)
+        for text in (bad, (outside * 8101).encode(), (outside * 8100)[:-1].encode(), (f"{ZERO}\n" + outside * 8099).encode()):
+            self.assertRefused(18, sccc.judge, 33, self.labels, text)
+        self.assertRefused(19, sccc.judge, 37, self.labels, (outside * 8100).encode())
+
+    def test_refused_judgements(self):
+        """Every field is 0, of which Python sees nothing elsewhere. Where nothing differs none is 1."""
+        for f, labels, text, due in (
+            (32, self.labels, LOST_LINE * 8100, (1, 0, 0, 0, 0, 0)),
+            (33, self.labels[1:], LOST_LINE * 8100, (2, 0, 0, 0, 0, 0)),
+            (33, self.labels, OTHER_LINE * 8099, (18, 0, 0, 0, 0, 0)),
+            (33, self.labels, OTHER_LINE * 8099 + f"{ZERO},{NAN}\n", (19, 0, 0, 0, 0, 0)),
+            (33, self.labels, LOST_LINE * 8100, (0, 0, 0, 8100, 1, 0)),
+            (33, bytes([OTHER]) * 8100, OTHER_LINE * 8100, (0, 8100, 0, 0, 1, 0)),
+            (33, bytes([OTHER]) * 8099 + b"\0", OTHER_LINE * 8100, (0, 8099, 1, 0, 0, 8099)),
+            (33, bytes(8100), OTHER_LINE * 8100, (0, 0, 8100, 0, 0, 0)),
+        ):
+            r = sccc._loaded().sccc_judge(f, *sccc._lent(sccc._view("labels", labels), sccc._view("capture", text.encode())))
+            self.assertEqual((r.number, r.agreeing, r.differing, r.lost, r.none, r.first), due)
+
+    def test_capture(self):
+        """What it writes is what is due, and any floats are written."""
+        points = [None if place % 7 == 0 else self.points[label] for place, label in enumerate(self.labels)]
+        lines = [LOST_LINE if place % 7 == 0 else line for place, line in enumerate(self.due)]
+        self.assertEqual(sccc.capture(points), "".join(lines).encode())
+        self.assertEqual(sccc.judge(33, self.labels, sccc.capture(points)), (8100 - 1158, 0, 1158, None))
+        self.assertEqual(sccc.capture([]), b"")
+        self.assertEqual(sccc.capture([(0.6172, -0.0695)]), b"3FE3C01A36E2EB1C,BFB1CAC083126E98\n")
+        self.assertEqual(sccc.capture(iter([None, [2, -2]])), b"LOST\n4000000000000000,C000000000000000\n")
+        self.assertEqual(sccc.capture([(-0.0, 5e-324)]), b"8000000000000000,0000000000000001\n")
+        self.assertEqual(sccc.capture([(math.inf, -math.inf)]), b"7FF0000000000000,FFF0000000000000\n")
+        self.assertEqual(sccc.capture(numpy.array([[1, 0.5]])), b"3FF0000000000000,3FE0000000000000\n")
+        for sample in ((1.0,), (1.0, 1.0, 1.0), ("1", "1"), (None, None), (1j, 1j)):
+            self.assertRaises(struct.error, sccc.capture, [sample])
+        for sample in (1.0, 1j):
+            self.assertRaises(TypeError, sccc.capture, [sample])
+
+    def test_memory(self):
+        text = "".join(self.due).encode()
+        for labels, capture in (
+            (bytearray(self.labels), bytearray(text)),
+            (memoryview(b"\0" + self.labels)[1:], memoryview(b"\n" + text + b"\n")[1:-1]),
+            (array("B", self.labels), array("b", text)),
+            (numpy.frombuffer(self.labels, dtype=numpy.uint8), numpy.frombuffer(text, dtype=numpy.uint8)),
+        ):
+            self.assertEqual(sccc.judge(33, labels, capture), (8100, 0, 0, None))
+            self.assertEqual((bytes(labels), bytes(capture)), (self.labels, text))
+        lines = numpy.frombuffer(text, dtype="S34")
+        for labels, capture in (
+            (self.labels.decode("latin"), text),
+            (list(self.labels), text),
+            (None, text),
+            (array("H", list(self.labels)), text),
+            (memoryview(bytes(16200))[::2], text),
+            (self.labels, text.decode()),
+            (self.labels, self.due),
+            (self.labels, None),
+            (self.labels, array("d", bytes(8 * 16200))),
+            (self.labels, numpy.array(self.points)),
+            (self.labels, lines),
+            (self.labels, memoryview(bytes(2 * len(text)))[::2]),
+        ):
+            self.assertRaises(TypeError, sccc.judge, 33, labels, capture)
+        for f in (33.0, "33", None):
+            self.assertRaises(TypeError, sccc.judge, f, self.labels, text)
+        self.assertEqual(sccc.judge(numpy.uint8(33), self.labels, text), (8100, 0, 0, None))
+
+    def test_overlapping_memory(self):
+        """Nothing is written, so it may overlap."""
+        text = LOST_LINE.encode() * 8100
+        self.assertEqual(sccc.judge(33, memoryview(text)[:8100], text), (0, 0, 8100, None))
+
+
 class Memory(Case):
     block = seeded(5, 5758)
 
@@ -1291,7 +1593,10 @@ class Library(Case):
         self.assertIn("MAX_I", names)
         self.assertIn("LAST_CODE", names)
         self.assertIn("POINT_PLACES", names)
+        self.assertIn("LONGEST_CAPTURE", names)
         for name in ("BAD_LINE", "BAD_PATTERN", "BAD_PILOTS", "SHORT_MEMORY", "BAD_CODE", "NO_WAY_BACK"):
+            self.assertIn(int(defined[name]), sccc.MEANINGS)
+        for name in ("BAD_CAPTURE", "BAD_COORDINATE"):
             self.assertIn(int(defined[name]), sccc.MEANINGS)
 
     def elsewhere(self, code, **environment):
