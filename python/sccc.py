@@ -416,7 +416,7 @@ def points(
 def constellation() -> str:
     """A drawing of table 5-2 to scale, as the text of an SVG file: the points that are not turned, each with its label, on their
     eight rings. It is kept as docs/constellation.svg."""
-    points = [point(FIRST_POINT_FORMAT, label, None, 0) for label in range(POINTS)]
+    points = _points()
     title = "256APSK, the constellation of formats 33 to 37"
     plot = _Plot(_EXTENT)
     parts = [_drawn_paper(title, f"{title}: points and their labels, hexadecimal", 1440), *_drawn_grid(plot)]
@@ -444,6 +444,40 @@ def judge(format: SupportsIndex, labels: Buffer, capture: Buffer) -> Judgement:
     r = _loaded().sccc_judge(_number(format), *_lent(_view("labels", labels), _view("capture", capture)))
     _pass(r.number)
     return Judgement(r.agreeing, r.differing, r.lost, None if r.none else r.first)
+
+
+def picture(format: SupportsIndex, labels: Buffer, capture: Buffer) -> str:
+    """A drawing of a capture over the constellation, as the text of an SVG file: a dot for each sample, whose colour says whether it
+    agrees with its label, differs or is lost, and how many do. A sample that differs has a line to the point that was due, and one
+    that is lost, since it has no coordinates, its dot on the point of its label.
+
+    Which label a sample is read as is worked out here once more, by Python's own floats. Where this comes to another judgement than
+    judge, RuntimeError is raised, and nothing is drawn.
+
+    Checks: those of judge.
+    """
+    judgement = judge(format, labels, capture)
+    points, given = _points(), bytes(_view("labels", labels))
+    samples = [_sample(line) for line in bytes(_view("capture", capture)).decode().splitlines()]
+    read = [None if sample is None else _nearest(points, sample) for sample in samples]
+    places = {
+        "agreeing": [place for place, label in enumerate(given) if read[place] == label],
+        "differing": [place for place, label in enumerate(given) if read[place] not in (label, None)],
+        "lost": [place for place, label in enumerate(read) if label is None],
+    }
+    found = Judgement(*map(len, places.values()), first=min(places["differing"], default=None))
+    if found != judgement:
+        raise RuntimeError(f"the library gives {judgement}, and by Python's floats it is {found}: nothing is drawn")
+
+    due = [points[label] for label in given]
+    dots = [due[place] if sample is None else sample for place, sample in enumerate(samples)]
+    plot = _Plot(_EXTENT if all(abs(x) <= _EXTENT for dot in dots for x in dot) else _LARGEST)
+    title = f"A capture of format {operator.index(format)} over the constellation"
+    parts = [_drawn_paper(title, title, 1540), *_drawn_grid(plot)]
+    parts.append(_drawn_misses(plot, [(dots[place], due[place]) for place in places["differing"]]))
+    parts += [_drawn_samples(plot, kind, [dots[place] for place in places[kind]]) for kind in places]
+    parts += [_drawn_dots(plot, points, 'fill="none" stroke="#222"'), _drawn_legend(judgement)]
+    return "\n".join([*parts, "</svg>", ""])
 
 
 class SharedEncoder:
@@ -733,6 +767,22 @@ def _line(sample: Optional[Tuple[float, float]]) -> str:
     return f"{digits[:16]},{digits[16:]}\n"
 
 
+def _sample(line: str) -> Optional[Point]:
+    """The sample of a line in a capture."""
+    return None if line == "LOST" else Point(*struct.unpack(">dd", bytes.fromhex(line.replace(",", ""))))
+
+
+def _points() -> List[Point]:
+    """The points of all labels, not turned."""
+    return [point(FIRST_POINT_FORMAT, label, None, 0) for label in range(POINTS)]
+
+
+def _nearest(points: List[Point], sample: Point) -> int:
+    """The label whose point is nearest, the lowest of those that are equally near. Each operation rounds to a double."""
+    distances = [(sample.i - i) * (sample.i - i) + (sample.q - q) * (sample.q - q) for i, q in points]
+    return distances.index(min(distances))
+
+
 _KINDS = {"B": ("B", "b", "c", "?"), "H": ("H",), "d": ("d",)}
 _DUE = {"B": "bytes", "H": "16-bit slots (H)", "d": "doubles (d)"}
 
@@ -806,9 +856,12 @@ def _address(view: memoryview) -> int:
 # The drawings. A plot begins here on its sheet, and is so wide and so high.
 _LEFT, _TOP = 100, 80
 _SIDE = 1260
-#: what the plot reaches to along either axis, for the constellation
+# What it reaches to along either axis: for the constellation, and for the largest coordinates of a capture.
 _EXTENT = 1.5
+_LARGEST = 2.0
 _RINGS = 8
+# The dots of a capture's samples: their colour, from a palette for the colour-blind too, and their width.
+_SAMPLES = {"agreeing": ("#56b4e9", 4), "differing": ("#d55e00", 8), "lost": ("#000", 10)}
 
 
 class _Plot(NamedTuple):
@@ -896,3 +949,33 @@ def _drawn_labels(plot: _Plot, points: List[Point]) -> str:
         away = 1 + 0.062 / math.hypot(p.i, p.q)
         texts.append(f'<text x="{plot.across(away * p.i):.1f}" y="{plot.down(away * p.q) + 7:.1f}">{label:02X}</text>')
     return _group('id="labels" font-family="monospace" font-size="20" text-anchor="middle"', texts)
+
+
+def _drawn_samples(plot: _Plot, kind: str, dots: List[Point]) -> str:
+    """The samples of a kind, in one path: a line of no length with round ends is a dot."""
+    colour, width = _SAMPLES[kind]
+    marks = "\n".join(f"M{plot.across(p.i):.1f} {plot.down(p.q):.1f}h0" for p in dots)
+    return f'<path id="{kind}" fill="none" stroke="{colour}" stroke-width="{width}" stroke-linecap="round" d="{marks}"/>'
+
+
+def _drawn_misses(plot: _Plot, misses: List[Tuple[Point, Point]]) -> str:
+    """Thin lines from samples that differ to the points that were due."""
+    marks = "\n".join(
+        f"M{plot.across(dot.i):.1f} {plot.down(dot.q):.1f}L{plot.across(due.i):.1f} {plot.down(due.q):.1f}" for dot, due in misses
+    )
+    return f'<path id="misses" fill="none" stroke="{_SAMPLES["differing"][0]}" d="{marks}"/>'
+
+
+def _drawn_legend(judgement: Judgement) -> str:
+    """What the dots' colours say, and how many there are of each."""
+    first = "" if judgement.first is None else f", the first at place {judgement.first}: lines lead to the points that were due"
+    lines = (
+        f"{judgement.agreeing} agreeing",
+        f"{judgement.differing} differing{first}",
+        f"{judgement.lost} lost, on the points of their labels",
+    )
+    parts = []
+    for y, (colour, width), line in zip((1450, 1480, 1510), _SAMPLES.values(), lines):
+        parts.append(f'<circle cx="{_LEFT + 8}" cy="{y - 7}" r="{width}" fill="{colour}"/>')
+        parts.append(f'<text x="{_LEFT + 28}" y="{y}">{line}</text>')
+    return _group('id="legend" font-size="22"', parts)

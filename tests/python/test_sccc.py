@@ -16,6 +16,7 @@ from array import array
 from concurrent.futures import ThreadPoolExecutor
 from functools import lru_cache
 from itertools import cycle, islice, permutations, product
+from unittest import mock
 from xml.etree import ElementTree
 
 import numpy
@@ -1503,6 +1504,153 @@ class Judgements(Case):
         """Nothing is written, so it may overlap."""
         text = LOST_LINE.encode() * 8100
         self.assertEqual(sccc.judge(33, memoryview(text)[:8100], text), (0, 0, 8100, None))
+
+
+class Pictures(Case):
+    labels = Judgements.labels
+
+    @classmethod
+    def setUpClass(cls):
+        """Of each hundred samples one is lost, four lie beside another label's point, and the others beside their own."""
+        cls.points = [sccc.point(33, label, None, 0) for label in range(sccc.POINTS)]
+        cls.due = [cls.points[label] for label in cls.labels]
+        random = numpy.random.RandomState(14)
+        cls.samples = []
+        for place, label in enumerate(cls.labels):
+            i, q = cls.points[label ^ 128 if place % 25 == 7 else label]
+            di, dq = random.uniform(-0.04, 0.04, 2)
+            cls.samples.append(None if place % 100 == 99 else (i + di, q + dq))
+        cls.picture = cls.drawn(33, cls.labels, cls.samples)
+        cls.few = sccc.capture(cls.samples[:100] + [None] * 8000)
+
+    @staticmethod
+    def drawn(f, labels, samples):
+        """The parts of a picture that have a name."""
+        root = ElementTree.fromstring(sccc.picture(f, labels, sccc.capture(samples)))
+        return {part.get("id"): part for part in root if part.get("id")}
+
+    def dots(self, picture, kind, scale=420):
+        """Of the samples of a kind, from the middle of the plot and in its unit."""
+        marks = [re.fullmatch(r"(\d+\.\d) (\d+\.\d)h0 ?", mark).groups() for mark in picture[kind].get("d").split("M")[1:]]
+        return [((float(across) - 730) / scale, (710 - float(down)) / scale) for across, down in marks]
+
+    def assertDots(self, dots, due, apart=0.00025):
+        self.assertEqual(len(dots), len(due))
+        self.assertLess(max((math.dist(dot, point) for dot, point in zip(dots, due)), default=0), apart)
+
+    def legend(self, picture):
+        return [text.text for text in picture["legend"].findall("{*}text")]
+
+    def test_every_sample_is_drawn(self):
+        """Once: where it is, or if lost where its label's point is."""
+        lost = [place for place, sample in enumerate(self.samples) if sample is None]
+        differing = [place for place in range(7, 8100, 25)]
+        agreeing = sorted({*range(8100)} - {*lost} - {*differing})
+        judgement = sccc.judge(33, self.labels, sccc.capture(self.samples))
+        self.assertEqual(judgement, (len(agreeing), len(differing), len(lost), 7))
+        self.assertEqual(judgement, (7695, 324, 81, 7))
+        self.assertDots(self.dots(self.picture, "agreeing"), [self.samples[place] for place in agreeing])
+        self.assertDots(self.dots(self.picture, "differing"), [self.samples[place] for place in differing])
+        self.assertDots(self.dots(self.picture, "lost"), [self.due[place] for place in lost])
+
+    def test_lines_lead_to_the_points_that_were_due(self):
+        pattern = r"(\d+\.\d) (\d+\.\d)L(\d+\.\d) (\d+\.\d) ?"
+        lines = [re.fullmatch(pattern, line).groups() for line in self.picture["misses"].get("d").split("M")[1:]]
+        ends = [[((float(a) - 730) / 420, (710 - float(d)) / 420) for a, d in (line[:2], line[2:])] for line in lines]
+        self.assertDots([start for start, _ in ends], self.samples[7::25])
+        self.assertDots([end for _, end in ends], self.due[7::25])
+
+    def test_kinds_are_told_apart(self):
+        """By three colours, which are the legend's too."""
+        paths = [self.picture[kind] for kind in ("agreeing", "differing", "lost")]
+        colours = [path.get("stroke") for path in paths]
+        self.assertEqual(len(set(colours)), 3)
+        self.assertEqual({path.get("stroke-linecap") for path in paths}, {"round"})
+        self.assertEqual([circle.get("fill") for circle in self.picture["legend"].findall("{*}circle")], colours)
+        self.assertEqual(self.picture["misses"].get("stroke"), colours[1])
+        agreeing, differing, lost = self.legend(self.picture)
+        self.assertEqual(agreeing, "7695 agreeing")
+        self.assertRegex(differing, "^324 differing, the first at place 7:")
+        self.assertRegex(lost, "^81 lost")
+
+    def test_points_are_drawn(self):
+        dots = [(float(dot.get("cx")), float(dot.get("cy"))) for dot in self.picture["dots"]]
+        self.assertDots([((across - 730) / 420, (710 - down) / 420) for across, down in dots], self.points, apart=1e-5)
+        self.assertEqual(len(self.picture["rings"]), 8)
+        self.assertEqual([text.text for text in self.picture["numbers"]][:2], ["in-phase", "quadrature"])
+
+    def test_one_kind_alone(self):
+        for samples, kind, label, line in (
+            (self.due, "agreeing", 0, "8100 agreeing"),
+            ([self.points[label ^ 128] for label in self.labels], "differing", 1, "8100 differing, the first at place 0:"),
+            ([None] * 8100, "lost", 2, "8100 lost"),
+        ):
+            picture = self.drawn(36, self.labels, samples)
+            for other in ("agreeing", "differing", "lost"):
+                drawn = [due if sample is None else sample for sample, due in zip(samples, self.due)] if other == kind else []
+                self.assertDots(self.dots(picture, other), drawn)
+            legend = self.legend(picture)
+            self.assertRegex(legend.pop(label), f"^{line}")
+            for text in legend:
+                self.assertRegex(text, "^0 [a-z]+(,|$)")
+                self.assertNotIn("first", text)
+
+    def test_reach(self):
+        """To 1.5, and to 2 where a coordinate is larger."""
+        beyond = 1.5 + 2**-52
+        for sample, reach in (
+            *(((1.5, -1.5), 1.5), ((-1.5, 1.5), 1.5), ((beyond, 0.0), 2), ((-beyond, 0.0), 2)),
+            *(((0.0, beyond), 2), ((0.0, -beyond), 2), ((2.0, -2.0), 2)),
+        ):
+            picture = self.drawn(33, self.labels, self.due[:99] + [None] * 8000 + [sample])
+            scale = 630 / reach
+            self.assertDots(self.dots(picture, "differing", scale), [sample])
+            self.assertDots(self.dots(picture, "agreeing", scale), self.due[:99])
+            self.assertDots(self.dots(picture, "lost", scale), self.due[99:-1])
+            border = picture["axes"].find("{*}rect")
+            self.assertEqual([border.get(name) for name in ("x", "y", "width", "height")], ["100", "80", "1260", "1260"])
+            radii = [float(ring.get("r")) / scale for ring in picture["rings"]]
+            self.assertAlmostEqual(radii[7], 15 / math.sqrt(127), places=5)
+            numbers = {text.text: float(text.get("x")) for text in picture["numbers"] if text.get("y") == "1368"}
+            self.assertEqual(len(numbers), 15 if reach == 1.5 else 21)
+            for number, across in numbers.items():
+                self.assertAlmostEqual(float(number.replace("\N{MINUS SIGN}", "-")), (across - 730) / scale, places=2)
+
+    def test_formats(self):
+        """The points are the same; the picture says which format it is of."""
+        pictures = [sccc.picture(f, self.labels, self.few) for f in Judgements.formats]
+        for f, picture in zip(Judgements.formats, pictures):
+            self.assertIn(f"<title>A capture of format {f} over the constellation</title>", picture)
+            self.assertEqual(picture.replace(f"format {f}", "format 33"), pictures[0])
+
+    def test_refusals(self):
+        text = sccc.capture(self.samples)
+        for number, f, labels, capture in (
+            (1, 32, self.labels[1:], text[1:]),
+            (1, 2**64 + 33, self.labels, text),
+            (2, 33, self.labels[1:], text[1:]),
+            (18, 33, self.labels, text[1:]),
+            (18, 33, self.labels, sccc.capture([(math.nan, 0.0)]) * 8101),
+            (19, 33, self.labels, sccc.capture([(math.nan, 0.0)]) * 8100),
+        ):
+            self.assertRefused(number, sccc.picture, f, labels, capture)
+        for arguments in ((33.0, self.labels, text), (33, list(self.labels), text), (33, self.labels, text.decode())):
+            self.assertRaises(TypeError, sccc.picture, *arguments)
+
+    def test_another_judgement_is_not_drawn(self):
+        judgement = sccc.judge(33, self.labels, self.few)
+        self.assertEqual(judgement, (95, 4, 8001, 7))
+        for other in (
+            judgement._replace(agreeing=judgement.agreeing - 1, differing=judgement.differing + 1),
+            judgement._replace(agreeing=judgement.agreeing - 1, lost=judgement.lost + 1),
+            judgement._replace(differing=judgement.differing - 1, lost=judgement.lost + 1),
+            judgement._replace(first=judgement.first + 1),
+            judgement._replace(first=None),
+        ):
+            with mock.patch.object(sccc, "judge", return_value=other):
+                self.assertRaisesRegex(RuntimeError, re.escape(str(other)), sccc.picture, 33, self.labels, self.few)
+        with mock.patch.object(sccc, "judge", return_value=judgement):
+            self.assertIn(">95 agreeing<", sccc.picture(33, self.labels, self.few))
 
 
 class Memory(Case):
