@@ -24,6 +24,7 @@ import numpy
 ROOT = os.path.dirname(os.path.dirname(os.path.dirname(os.path.abspath(__file__))))
 MODULE = os.path.join(ROOT, "python", "sccc.py")
 LIBRARY = os.path.join(ROOT, "build", "libsccc.so")
+CAPTURE = os.path.join(ROOT, "docs", "capture.svg")
 sys.dont_write_bytecode = True
 sys.path.insert(0, os.path.dirname(MODULE))
 
@@ -1651,6 +1652,23 @@ class Pictures(Case):
                 self.assertRaisesRegex(RuntimeError, re.escape(str(other)), sccc.picture, 33, self.labels, self.few)
         with mock.patch.object(sccc, "judge", return_value=judgement):
             self.assertIn(">95 agreeing<", sccc.picture(33, self.labels, self.few))
+
+    def test_it_is_the_file(self):
+        """Of the example's capture, of which the example says what it prints."""
+        with tempfile.TemporaryDirectory() as folder:
+            path = os.path.join(folder, "capture.svg")
+            variables = {**os.environ, "PYTHONPATH": os.path.dirname(MODULE)}
+            example = [sys.executable, "-B", os.path.join(ROOT, "examples", "judge.py"), "33", path]
+            printed = subprocess.run(example, env=variables, check=True, capture_output=True, text=True).stdout
+            with open(path, encoding="utf8", newline="") as drawn, open(CAPTURE, encoding="utf8", newline="") as kept:
+                text = kept.read()
+                self.assertTrue(text == drawn.read(), "docs/capture.svg is not what picture() gives for the example's capture")
+        picture = {part.get("id"): part for part in ElementTree.fromstring(text)}
+        counts = [len(self.dots(picture, kind)) for kind in ("agreeing", "differing", "lost")]
+        self.assertEqual(sum(counts), 8100)
+        self.assertIn("agreeing {}, differing {}, lost {},".format(*counts), printed)
+        for count, line in zip(counts, self.legend(picture)):
+            self.assertRegex(line, f"^{count} ")
 
 
 class Memory(Case):
