@@ -1501,6 +1501,20 @@ class Judgements(Case):
             self.assertRaises(TypeError, sccc.judge, f, self.labels, text)
         self.assertEqual(sccc.judge(numpy.uint8(33), self.labels, text), (8100, 0, 0, None))
 
+    def test_readmes_three_lines(self):
+        """Of files that have the names there."""
+        with open(os.path.join(ROOT, "README.md"), encoding="utf8") as file:
+            (code,) = re.findall(r"^    PYTHONPATH=python python3 -c '(import sccc\n.*?)'$", file.read(), re.M | re.S)
+        self.assertEqual(code.count("\n"), 2)
+        variables = {**os.environ, "PYTHONPATH": os.path.dirname(MODULE)}
+        command = [sys.executable, "-B", "-c", code.replace("\n    ", "\n")]
+        with tempfile.TemporaryDirectory() as folder:
+            for name, contents in (("labels", self.labels), ("capture", "".join([LOST_LINE, *self.due[1:]]).encode())):
+                with open(os.path.join(folder, name), "wb") as file:
+                    file.write(contents)
+            printed = subprocess.run(command, cwd=folder, env=variables, check=True, capture_output=True, text=True).stdout
+        self.assertEqual(printed, "Judgement(agreeing=8099, differing=0, lost=1, first=None)\n")
+
     def test_overlapping_memory(self):
         """Nothing is written, so it may overlap."""
         text = LOST_LINE.encode() * 8100
