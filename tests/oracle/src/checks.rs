@@ -5,6 +5,7 @@
 use crate::annex_c::{AnnexC, Interleaver};
 use crate::framing::{frame_slots, FRAME_LABELS, SECTIONS};
 use crate::job_line::{Line, LAST_CODE, OF_OLD};
+use crate::judge;
 use crate::segments::MOST_CUTS;
 use crate::slicer::{Slicer, MEMORY as WAITING_MEMORY};
 use crate::tables::{self, SECTION};
@@ -12,7 +13,7 @@ use crate::transfer::{LEAST_OCTETS, MOST_OCTETS};
 use crate::waveform;
 
 pub const PASSED: u64 = 0;
-/// The format is not 1 to 37, or of the waveform's calls not 33 to 37.
+/// The format is not 1 to 37, or of the waveform's calls and a judgement not 33 to 37.
 pub const FORMAT: u64 = 1;
 /// An input list is not exactly as long as the call takes, or more bits are
 /// said to wait than a slicer's memory holds.
@@ -47,6 +48,10 @@ pub const MEMORY: u64 = 15;
 pub const CODE: u64 = 16;
 /// The line cannot go back.
 pub const NO_WAY_BACK: u64 = 17;
+/// The capture has not exactly 8,100 lines of its shape.
+pub const CAPTURE: u64 = 18;
+/// A coordinate is not a number from -2 to 2.
+pub const COORDINATE: u64 = 19;
 
 /// The number of the first check that does not hold.
 fn first_failed(checks: &[(u64, bool)]) -> u64 {
@@ -315,6 +320,23 @@ pub fn points(format: u64, slots: &[u16], code: Option<u64>, place: u64, out_len
         (CODE, code.unwrap_or(0) <= LAST_CODE),
         (POSITION, end.is_some_and(|end| end <= waveform::PLACES)),
         (OUTPUT, out_len >= 2 * slots.len()),
+    ])
+}
+
+/// Judging a capture against a codeword's labels: all of its text, and then whether
+/// each coordinate is inside.
+pub fn judge(format: u64, labels: &[u8], capture: &[u8]) -> u64 {
+    let points = waveform::FORMATS.contains(&format);
+    let Some(f) = tables::format(format).filter(|_| points) else {
+        return FORMAT;
+    };
+    let samples = judge::samples(capture);
+    let inside = samples.iter().flatten().all(|sample| sample.is_inside());
+    first_failed(&[
+        (LENGTH, labels.len() == SECTION),
+        (ELEMENT, all_labels(labels, f.m)),
+        (CAPTURE, samples.is_some()),
+        (COORDINATE, inside),
     ])
 }
 
@@ -774,5 +796,41 @@ mod tests {
         assert_eq!(points(33, &[], None, 133_760, 0), PASSED);
         assert_eq!(points(33, &[], None, 133_761, 0), POSITION);
         assert_eq!(points(33, &[], None, u64::MAX, 0), POSITION);
+    }
+
+    /// 3 is never the first to fail: of eight bits every byte is a label.
+    #[test]
+    fn judge_asks_1_2_3_18_19() {
+        let labels = [255; SECTION];
+        let lost = b"LOST\n".repeat(SECTION);
+        let with = |line: &str| [line.as_bytes(), &lost[5..]].concat();
+        let far = with("0000000000000000,4000000000000001\n");
+        let good = with("4000000000000000,C000000000000000\n");
+        // All that comes after fails too: a line of no shape behind what is too far.
+        let both = [&far[..], b"LOST"].concat();
+        for format in [0, 1, 27, 32, 38, 33 + 256, 1 << 32 | 33, u64::MAX] {
+            assert_eq!(judge(format, &labels[1..], &both), FORMAT);
+            assert_eq!(judge(format, &labels, &lost), FORMAT);
+        }
+        for count in [0, 1, SECTION - 1, SECTION + 1, 2 * SECTION] {
+            let list = vec![0; count];
+            assert_eq!(judge(33, &list, &both), LENGTH);
+            assert_eq!(judge(37, &list, &good), LENGTH);
+        }
+        for capture in [
+            &both[..],
+            &lost[1..],
+            &lost[5..],
+            b"",
+            &with("\n"),
+            &with("lost\n"),
+        ] {
+            assert_eq!(judge(33, &labels, capture), CAPTURE);
+        }
+        assert_eq!(judge(33, &labels, &far), COORDINATE);
+        for format in waveform::FORMATS {
+            assert_eq!(judge(format, &labels, &good), PASSED);
+            assert_eq!(judge(format, &labels, &lost), PASSED);
+        }
     }
 }

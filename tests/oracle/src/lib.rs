@@ -20,6 +20,7 @@ pub mod encoder;
 pub mod framing;
 pub mod galois;
 pub mod job_line;
+pub mod judge;
 pub mod puncturing_search;
 pub mod segments;
 pub mod self_check;
