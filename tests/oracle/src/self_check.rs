@@ -2,6 +2,7 @@
 //! 01 print, and what they say must hold.
 
 mod extension;
+mod judge;
 mod waveform;
 
 use crate::annex_c::{AnnexC, Interleaver};
@@ -97,6 +98,8 @@ pub fn self_check(annex_c: &AnnexC) -> Report {
     waveform::subsets(&mut report);
     waveform::sequences(&mut report);
     waveform::turns(&mut report);
+    judge::readings(&mut report);
+    judge::ties(&mut report);
     annex_c_tables(&mut report, annex_c);
     if report.failed {
         // Broken tables may send the stages below to positions that are not there.

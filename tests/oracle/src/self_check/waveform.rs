@@ -9,7 +9,7 @@ use crate::waveform::{
 use std::f64::consts::PI;
 
 /// Document 02, L12: so many ten-thousandths are one.
-const ONE: i64 = 10_000;
+pub const ONE: i64 = 10_000;
 
 /// 5.2.3.1 and 5.2.3.2: the points of each circumference, and its radius by the
 /// first one's.
@@ -57,7 +57,7 @@ pub fn table(report: &mut Report) {
 }
 
 /// The points by their labels, as whole ten-thousandths.
-fn whole_points() -> Vec<[i64; 2]> {
+pub fn whole_points() -> Vec<[i64; 2]> {
     let whole = |decimal: &str| decimal.replace('.', "").parse().expect("four decimals");
     let entries = table_5_2().into_iter();
     entries.map(|entry| [entry.I, entry.Q].map(whole)).collect()
