@@ -1,9 +1,11 @@
-//! The blocks that are encoded for a comparison, and the digests that stand for
-//! long lists. These definitions are an agreement, not the standard's: both
-//! sides of a comparison follow them.
+//! The blocks that are encoded for a comparison, what is captured of one, and the
+//! digests that stand for long lists. These definitions are an agreement, not the
+//! standard's: both sides of a comparison follow them.
 
+use crate::judge::Sample;
 use crate::tables::{self, Format};
 use crate::transfer;
+use crate::waveform::{constellation, Point};
 
 /// d starts at 1; each element x makes it (d * 1000003 + x + 1) modulo
 /// 4294967291.
@@ -115,6 +117,32 @@ pub fn waiting_at_change() -> u64 {
     ((bits - before_change() % bits) % bits) as u64
 }
 
+/// The block whose codeword is captured: seed 5000 plus the format number.
+pub fn captured_block(format: &Format) -> Vec<u8> {
+    seeded_block(5000 + format.number, format.K)
+}
+
+/// The test capture: of a hundred samples the last is lost, and each other is its
+/// label's point with noise.
+pub fn test_capture(format: &Format, labels: &[u8]) -> Vec<Sample> {
+    let noise = seeded_frame(6000 + format.number, 2 * labels.len());
+    let sample = |(place, (&label, octets)): (usize, (&u8, &[u8]))| match place % 100 {
+        99 => Sample::Lost,
+        _ => Sample::Pair(noisy(constellation()[usize::from(label)], octets)),
+    };
+    let pairs = labels.iter().zip(noise.chunks(2));
+    pairs.enumerate().map(sample).collect()
+}
+
+/// A point moved by an octet for each coordinate: 128 leaves it where it is.
+pub fn noisy(point: Point, octets: &[u8]) -> Point {
+    let noise = |octet: u8| (f64::from(octet) - 128.0) * 0.0005;
+    Point {
+        I: point.I + noise(octets[0]),
+        Q: point.Q + noise(octets[1]),
+    }
+}
+
 #[cfg(test)]
 mod tests {
     use super::*;
@@ -141,5 +169,18 @@ mod tests {
         assert_eq!(pattern_block(1, 3), Some(vec![1, 1, 1]));
         assert_eq!(pattern_block(2, 3), Some(vec![1, 0, 0]));
         assert_eq!(pattern_block(3, 3), None);
+    }
+
+    /// From seed 6033: 308176630, 768932599, so octets 94 and 212.
+    #[test]
+    fn a_test_capture_by_hand() {
+        let format = tables::format(33).unwrap();
+        let samples = test_capture(&format, &[255; 8100]);
+        let lost = |place: &usize| samples[*place] == Sample::Lost;
+        assert!((0..8100).filter(lost).eq((99..8100).step_by(100)));
+        let moved = noisy(constellation()[255], &[94, 212]);
+        assert_eq!(samples[0], Sample::Pair(moved));
+        assert!((moved.I - 0.2967).abs() < 1e-12 && (moved.Q - 0.3557).abs() < 1e-12);
+        assert_eq!(noisy(moved, &[128, 128]), moved);
     }
 }

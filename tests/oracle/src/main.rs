@@ -5,16 +5,16 @@
 
 use oracle::annex_c::{self, AnnexC};
 use oracle::digest::{
-    changed_blocks, digest, frame_blocks, pattern_block, stream_blocks, test_lists, vector_blocks,
-    waiting_at_change,
+    captured_block, changed_blocks, digest, frame_blocks, pattern_block, stream_blocks,
+    test_capture, test_lists, vector_blocks, waiting_at_change,
 };
 use oracle::encoder::{encode, labels};
 use oracle::shared::Memory;
 use oracle::slicer::{self, Slicer};
 use oracle::tables::{self, Format};
 use oracle::{
-    annex_d, checks, framing, job_line, puncturing_search, segments, self_check, three, trellis,
-    waveform, wrong_rows,
+    annex_d, checks, framing, job_line, judge, puncturing_search, segments, self_check, three,
+    trellis, waveform, wrong_rows,
 };
 use std::io::Write;
 use std::path::PathBuf;
@@ -42,6 +42,7 @@ const USAGE: &str = "usage: oracle [--annex-c PATH] COMMAND
   three                digests of the frame of the list that is the exclusive or
                        of three lists of transfer frames, seven formats, pilots
                        off and on
+  judgements           what is found in a capture of a codeword, formats 33 to 37
   ones FORMAT PATTERN  ones in the codeword of pattern 0, 1 or 2
   annex-d              the spread of each interleaver
   wrong-rows           how often annex D's rule misses a wrong row of annex C
@@ -111,6 +112,7 @@ fn command(arguments: &[String]) -> Result<(String, ExitCode), String> {
         ["lines"] => lines(),
         ["points"] => points(),
         ["three"] => of_three(&annex_c()?),
+        ["judgements"] => judgements(&annex_c()?),
         ["ones", format, pattern] => ones(&annex_c()?, format, pattern)?,
         ["annex-d"] => annex_d::listing(&annex_c()?),
         ["wrong-rows"] => wrong_rows::listing(&annex_c()?),
@@ -300,6 +302,27 @@ fn of_three(annex_c: &AnnexC) -> String {
             let frame = framing::frame(&f, pilots, &labels);
             text.push_str(&format!("{},{pilots},{}\n", f.number, digest(&frame)));
         }
+    }
+    text
+}
+
+/// The judgement of a capture of a codeword, for each format that has points.
+fn judgements(annex_c: &AnnexC) -> String {
+    let mut text = String::from("format,samples,agreeing,differing,lost,first\n");
+    for number in waveform::FORMATS {
+        let f = tables::format(number).expect("a format");
+        let codeword = encode(&f, annex_c.of_size(f.I), &captured_block(&f)).codeword;
+        let labels = labels(&f, &codeword);
+        let samples = test_capture(&f, &labels);
+        let found = judge::judge(number, &labels, &judge::text(&samples));
+        let first = found.first.map_or("none".into(), |place| place.to_string());
+        text.push_str(&format!(
+            "{number},{},{},{},{},{first}\n",
+            samples.len(),
+            found.agreeing,
+            found.differing,
+            found.lost,
+        ));
     }
     text
 }
