@@ -159,6 +159,18 @@ pub struct PointAnswer {
     pub q: f64,
 }
 
+/// What `sccc_judge` gives; none is 1 where nothing differs, and first is then 0.
+#[repr(C)]
+#[derive(Clone, Copy, Debug, PartialEq, Eq)]
+pub struct Judgement {
+    pub number: u64,
+    pub agreeing: u64,
+    pub differing: u64,
+    pub lost: u64,
+    pub none: u64,
+    pub first: u64,
+}
+
 extern "C" {
     fn sccc_format(format: u64) -> FormatInfo;
     fn sccc_step(state: u64, bit: u64) -> Stepped;
@@ -267,6 +279,13 @@ extern "C" {
         out: *mut f64,
         out_len: usize,
     ) -> u8;
+    fn sccc_judge(
+        format: u64,
+        labels: *const u8,
+        labels_len: usize,
+        capture: *const u8,
+        capture_len: usize,
+    ) -> Judgement;
 }
 
 fn pointer<T>(list: &[T]) -> *const T {
@@ -490,6 +509,19 @@ pub fn points(format: u64, slots: &[u16], code: u64, place: u64, out: &mut [u64]
             place,
             pointer_mut(out).cast(),
             out.len(),
+        )
+    }
+}
+
+pub fn judge(format: u64, labels: &[u8], capture: &[u8]) -> Judgement {
+    // SAFETY: as in encode.
+    unsafe {
+        sccc_judge(
+            format,
+            pointer(labels),
+            labels.len(),
+            pointer(capture),
+            capture.len(),
         )
     }
 }
