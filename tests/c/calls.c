@@ -21,6 +21,7 @@ static uint8_t labels[SCCC_FRAME_LABELS + SPARE];
 static uint8_t others[SCCC_SYMBOLS + SPARE];
 static uint16_t slots[SCCC_PILOT_FRAME_SLOTS + SPARE];
 static double coordinates[2 * SCCC_POINT_PLACES + SPARE];
+static uint8_t capture[SCCC_LONGEST_CAPTURE + 40 + SPARE]; /* a line more than there may be */
 static uint8_t transfer[SCCC_MOST_TRANSFER_FRAME + SPARE];
 static uint8_t waiting[SCCC_WAITING_MEMORY + SPARE];
 
@@ -1864,21 +1865,23 @@ static int point_is(sccc_point_answer r, double i, double q)
     return r.number == SCCC_PASSED && bits_of(r.i) == bits_of(i) && bits_of(r.q) == bits_of(q);
 }
 
-/* Every format that has points gives the same, in the first column of document 004's table 5-2, in
- * the last one, and at the labels whose decimal points our copy has lost. */
+/* Document 004's table 5-2: of its first column and its last one, and the labels whose decimal
+ * points our copy has lost. */
+static const struct {
+    uint8_t label;
+    double i, q;
+} table[] = {
+    {0, -0.9412, -0.9412}, {1, -0.4770, -1.2426},   {15, 0.0627, 0.0627},
+    {30, 0.9736, 0.0696},  {31, 0.2571, 0.0689},    {47, 0.6172, 0.0695},
+    {63, 0.4382, 0.0694},  {95, 0.1882, 0.1882},    {96, -0.5968, -0.9872},
+    {126, 1.1347, 0.2079}, {127, 0.3953, 0.2014},   {128, -1.1860, -0.6043},
+    {159, 0.2052, 0.5863}, {224, -0.5850, -0.7814}, {229, -0.0689, -0.2571},
+    {254, 1.1013, 0.3432}, {255, 0.3137, 0.3137},
+};
+
+/* Every format that has points gives these. */
 static void points_of_table(void)
 {
-    static const struct {
-        uint64_t label;
-        double i, q;
-    } table[] = {
-        {0, -0.9412, -0.9412}, {1, -0.4770, -1.2426},   {15, 0.0627, 0.0627},
-        {30, 0.9736, 0.0696},  {31, 0.2571, 0.0689},    {47, 0.6172, 0.0695},
-        {63, 0.4382, 0.0694},  {95, 0.1882, 0.1882},    {96, -0.5968, -0.9872},
-        {126, 1.1347, 0.2079}, {127, 0.3953, 0.2014},   {128, -1.1860, -0.6043},
-        {159, 0.2052, 0.5863}, {224, -0.5850, -0.7814}, {229, -0.0689, -0.2571},
-        {254, 1.1013, 0.3432}, {255, 0.3137, 0.3137},
-    };
     static const uint64_t places[] = {0, 1, 131071, SCCC_POINT_PLACES - 1};
     uint64_t f;
     size_t j, n;
@@ -2141,6 +2144,443 @@ static void points(void)
     rows_refused();
 }
 
+/* What a capture is written of: of each symbol that it is lost, or the bits of its coordinates. */
+static struct {
+    int lost;
+    uint64_t i, q;
+} samples[SCCC_SYMBOLS];
+
+static void put_bits(size_t place, uint64_t i, uint64_t q)
+{
+    samples[place].lost = 0;
+    samples[place].i = i;
+    samples[place].q = q;
+}
+
+static void put_pair(size_t place, double i, double q)
+{
+    put_bits(place, bits_of(i), bits_of(q));
+}
+
+static void put_all(double i, double q)
+{
+    size_t j;
+    for (j = 0; j < SCCC_SYMBOLS; j++)
+        put_pair(j, i, q);
+}
+
+static void lose(size_t place)
+{
+    samples[place].lost = 1;
+}
+
+static void lose_all(void)
+{
+    size_t j;
+    for (j = 0; j < SCCC_SYMBOLS; j++)
+        lose(j);
+}
+
+/* Labels of the table in turn, and their points. */
+static void put_points(void)
+{
+    size_t j;
+    fill(labels, sizeof labels);
+    for (j = 0; j < SCCC_SYMBOLS; j++) {
+        labels[j] = table[j % LENGTH(table)].label;
+        put_pair(j, table[j % LENGTH(table)].i, table[j % LENGTH(table)].q);
+    }
+}
+
+static const char hexadecimal[] = "0123456789ABCDEF";
+
+static uint8_t *digits(uint8_t *at, uint64_t bits)
+{
+    int shift;
+    for (shift = 60; shift >= 0; shift -= 4)
+        *at++ = (uint8_t)hexadecimal[bits >> shift & 15];
+    return at;
+}
+
+static uint8_t *sample_line(uint8_t *at, size_t place)
+{
+    if (samples[place].lost) {
+        memcpy(at, "LOST\n", 5);
+        return at + 5;
+    }
+    at = digits(at, samples[place].i);
+    *at++ = ',';
+    at = digits(at, samples[place].q);
+    *at++ = '\n';
+    return at;
+}
+
+/* Writes the capture, with other bytes for the line of one place, and gives its length. */
+static size_t capture_with(size_t other_place, const void *other, size_t length)
+{
+    uint8_t *at = capture;
+    size_t j;
+    fill(capture, sizeof capture);
+    for (j = 0; j < SCCC_SYMBOLS; j++)
+        if (j == other_place) {
+            memcpy(at, other, length);
+            at += length;
+        } else {
+            at = sample_line(at, j);
+        }
+    return (size_t)(at - capture);
+}
+
+static size_t write_capture(void)
+{
+    return capture_with(SCCC_SYMBOLS, "", 0);
+}
+
+/* A judgement of the capture by the labels: the answer, and every byte that was lent. */
+static void judge_gives(int line, uint64_t f, size_t labels_len, size_t capture_len,
+                        sccc_judgement due)
+{
+    static uint8_t labels_before[sizeof labels], capture_before[sizeof capture];
+    sccc_judgement r;
+    memcpy(labels_before, labels, sizeof labels);
+    memcpy(capture_before, capture, sizeof capture);
+    r = sccc_judge(f, lent(labels, labels_len), labels_len, lent(capture, capture_len),
+                   capture_len);
+    check(line, r.number == due.number, "the number of sccc_judge");
+    check(line, r.agreeing == due.agreeing && r.differing == due.differing, "the labels counted");
+    check(line, r.lost == due.lost, "the lost samples counted");
+    check(line, r.none == due.none && r.first == due.first, "the first place that differs");
+    check(line, memcmp(labels, labels_before, sizeof labels) == 0, "the labels are unchanged");
+    check(line, memcmp(capture, capture_before, sizeof capture) == 0, "the capture is unchanged");
+}
+
+static void judged(int line, uint64_t f, uint64_t agreeing, uint64_t differing, uint64_t lost,
+                   uint64_t none, uint64_t first)
+{
+    const sccc_judgement due = {SCCC_PASSED, agreeing, differing, lost, none, first};
+    judge_gives(line, f, SCCC_SYMBOLS, write_capture(), due);
+}
+
+static void judge_refused(int line, uint64_t number, uint64_t f, size_t labels_len,
+                          size_t capture_len)
+{
+    const sccc_judgement due = {number, 0, 0, 0, 0, 0};
+    judge_gives(line, f, labels_len, capture_len, due);
+}
+
+#define JUDGED(f, agreeing, differing, lost, none, first)                                          \
+    judged(__LINE__, f, agreeing, differing, lost, none, first)
+#define JUDGE_REFUSED(number, f, labels_len, capture_len)                                          \
+    judge_refused(__LINE__, number, f, labels_len, capture_len)
+
+/* A capture of each label's own point, with one that is lost or has another label, at either end
+ * and between; with two of these; and with all of them lost or all others. */
+static void counts_of_format(uint64_t f)
+{
+    static const size_t places[] = {0, 1, 4095, 8098, 8099};
+    size_t j, n;
+    put_points();
+    JUDGED(f, 8100, 0, 0, 1, 0);
+    for (j = 0; j < LENGTH(places); j++) {
+        const size_t place = places[j];
+        labels[place] ^= 1;
+        JUDGED(f, 8099, 1, 0, 0, place);
+        /* what is lost does not differ */
+        lose(place);
+        JUDGED(f, 8099, 0, 1, 1, 0);
+        labels[place] ^= 1;
+        JUDGED(f, 8099, 0, 1, 1, 0);
+        for (n = 0; n < LENGTH(places); n++)
+            if (n != j) {
+                labels[places[n]] ^= 1;
+                JUDGED(f, 8098, 1, 1, 0, places[n]);
+                labels[places[n]] ^= 1;
+            }
+        put_points();
+        for (n = j + 1; n < LENGTH(places); n++) {
+            labels[place] ^= 128;
+            labels[places[n]] ^= 255;
+            JUDGED(f, 8098, 2, 0, 0, place);
+            put_points();
+        }
+    }
+    for (j = 0; j < SCCC_SYMBOLS; j++)
+        labels[j] ^= 16;
+    JUDGED(f, 0, 8100, 0, 0, 0);
+    lose(0);
+    JUDGED(f, 0, 8099, 1, 0, 1);
+    lose_all();
+    JUDGED(f, 0, 0, 8100, 1, 0);
+    put_pair(8099, 0.3137, 0.3137);
+    JUDGED(f, 0, 1, 8099, 0, 8099);
+    labels[8099] = 255;
+    JUDGED(f, 1, 0, 8099, 1, 0);
+}
+
+/* The points that sccc_point gives, each for its own label. */
+static void own_points(void)
+{
+    size_t j;
+    for (j = 0; j < SCCC_SYMBOLS; j++) {
+        const sccc_point_answer r = sccc_point(33, j % SCCC_POINTS, SCCC_UNSCRAMBLED, 0);
+        labels[j] = (uint8_t)(j % SCCC_POINTS);
+        put_pair(j, r.i, r.q);
+    }
+    JUDGED(33, 8100, 0, 0, 1, 0);
+    JUDGED(37, 8100, 0, 0, 1, 0);
+}
+
+/* A pair at every place: the labels at even places are the one that it is read as, the others are
+ * not. */
+static void read_as(int line, double i, double q, uint8_t label)
+{
+    size_t j;
+    put_all(i, q);
+    for (j = 0; j < SCCC_SYMBOLS; j++)
+        labels[j] = (uint8_t)(j % 2 == 0 ? label : label + 1 + j % 255);
+    judged(line, 35, 4050, 4050, 0, 0, 1);
+}
+
+#define READ_AS(i, q, label) read_as(__LINE__, i, q, label)
+
+/* On an axis two points of the table are as near as each other, and at the origin the four of ring
+ * 1. So they are where of a coordinate nothing is left in a difference from 0.0627 or more. Of
+ * their labels the lowest is read. */
+static void equally_near(void)
+{
+    static const double none[] = {0.0, -0.0, 5e-324, -5e-324, 1e-300, -1e-300, 1e-18, -1e-18};
+    static const struct {
+        double at;
+        uint8_t right, left, up, down;
+    } axes[] = {
+        {0.0627, 15, 45, 15, 135},
+        {0.2571, 31, 61, 79, 199},
+        {1.3292, 46, 12, 139, 3},
+        {2, 46, 12, 139, 3},
+    };
+    size_t i, j;
+    for (i = 0; i < LENGTH(none); i++) {
+        for (j = 0; j < LENGTH(none); j++)
+            READ_AS(none[i], none[j], 15);
+        for (j = 0; j < LENGTH(axes); j++) {
+            READ_AS(axes[j].at, none[i], axes[j].right);
+            READ_AS(-axes[j].at, none[i], axes[j].left);
+            READ_AS(none[i], axes[j].at, axes[j].up);
+            READ_AS(none[i], -axes[j].at, axes[j].down);
+        }
+    }
+}
+
+/* The corners of what coordinates may be, and as near to them as floats come: nearest is the point
+ * of ring 8 on the diagonal, 0.9412 and 0.9412 with their signs. */
+static void corners(void)
+{
+    static const double ends[] = {2, 1.9999999999999998};
+    size_t i, j;
+    for (i = 0; i < LENGTH(ends); i++)
+        for (j = 0; j < LENGTH(ends); j++) {
+            READ_AS(ends[i], ends[j], 170);
+            READ_AS(-ends[i], ends[j], 136);
+            READ_AS(ends[i], -ends[j], 34);
+            READ_AS(-ends[i], -ends[j], 0);
+        }
+}
+
+/* The first floats beyond 2, larger ones, the infinite ones, and what is no number, quiet and
+ * signalling; of either sign, in either coordinate. */
+static void coordinates_refused(void)
+{
+    static const uint64_t bits[] = {
+        UINT64_C(0x4000000000000001), UINT64_C(0x4000000000000002), UINT64_C(0x4008000000000000),
+        UINT64_C(0x4330000000000000), UINT64_C(0x7FEFFFFFFFFFFFFF), UINT64_C(0x7FF0000000000000),
+        UINT64_C(0x7FF0000000000001), UINT64_C(0x7FF7FFFFFFFFFFFF), UINT64_C(0x7FF8000000000000),
+        UINT64_C(0x7FF8000000000001), UINT64_C(0x7FFFFFFFFFFFFFFF),
+    };
+    static const size_t places[] = {0, 4050, 8099};
+    size_t i, j, n;
+    for (i = 0; i < LENGTH(bits); i++)
+        for (j = 0; j < LENGTH(places); j++)
+            for (n = 0; n < 4; n++) {
+                const uint64_t outside = bits[i] | (uint64_t)(n / 2) << 63;
+                const uint64_t good = bits_of(0.3137);
+                put_points();
+                put_bits(places[j], n % 2 == 0 ? outside : good, n % 2 == 0 ? good : outside);
+                JUDGE_REFUSED(SCCC_BAD_COORDINATE, 33, SCCC_SYMBOLS, write_capture());
+                lose_all();
+                put_bits(places[j], outside, outside);
+                JUDGE_REFUSED(SCCC_BAD_COORDINATE, 37, SCCC_SYMBOLS, write_capture());
+            }
+}
+
+#define NO_CAPTURE(length) JUDGE_REFUSED(SCCC_BAD_CAPTURE, 33, SCCC_SYMBOLS, length)
+
+/* Lines that no capture has, for the first one, one between and the last. */
+static void no_lines_of_captures(void)
+{
+    static const char *const lines[] = {
+        "", "\n", "LOST", "LOST\n\n", "\nLOST\n", "LOST\nLOST\n", "LOST\r\n", "LOST\r", "LOST \n",
+        " LOST\n", "lost\n", "Lost\n", "LOSt\n", "L0ST\n", "LOS\n", "LOSTT\n", "LOST,\n", ",LOST\n",
+        "LOST,LOST\n", "LOST,3FF0000000000000\n", "3FF0000000000000,LOST\n", ",\n", "1.0,1.0\n",
+        "3FF0000000000000\n", "3FF0000000000000,\n", ",3FF0000000000000\n",
+        "3FF0000000000000,3FF0000000000000", "3FF0000000000000,3FF0000000000000\r\n",
+        "3FF0000000000000,3FF0000000000000 \n", " 3FF0000000000000,3FF0000000000000\n",
+        "3FF0000000000000, 3FF0000000000000\n", "3FF0000000000000 ,3FF0000000000000\n",
+        "3FF0000000000000 3FF0000000000000\n", "3FF0000000000000;3FF0000000000000\n",
+        "3FF0000000000000\n3FF0000000000000\n", "3FF0000000000000,,3FF0000000000000\n",
+        "3FF0000000000000,3FF0000000000000,\n", "3FF00000000000003FF0000000000000\n",
+        "3FF0000000000000,3FF0000000000000,3FF0000000000000\n", "3FF0000000000000,3FF000000000000\n",
+        "3FF000000000000,3FF0000000000000\n", "3FF000000000000,3FF00000000000000\n",
+        "3FF0000000000000,3FF00000000000000\n", "3FF00000000000000,3FF000000000000\n",
+        "03FF0000000000000,3FF0000000000000\n", "3FF0000000000000,03FF0000000000000\n",
+        "3ff0000000000000,3FF0000000000000\n", "3FF0000000000000,3fF0000000000000\n",
+        "3FF0000000000000,3FF000000000000a\n", "+3FF000000000000,3FF0000000000000\n",
+        "-3FF000000000000,3FF0000000000000\n", "0x3FF00000000000,3FF0000000000000\n",
+        "\"3FF0000000000000\",3FF0000000000000\n", "3FF0000000000000\n,3FF0000000000000\n",
+    };
+    static const size_t places[] = {0, 4050, 8099};
+    size_t i, j;
+    for (i = 0; i < LENGTH(lines); i++)
+        for (j = 0; j < LENGTH(places); j++) {
+            put_points();
+            lose(1);
+            NO_CAPTURE(capture_with(places[j], lines[i], strlen(lines[i])));
+            lose_all();
+            NO_CAPTURE(capture_with(places[j], lines[i], strlen(lines[i])));
+        }
+}
+
+/* Any byte that does not belong there, at each place of a line. */
+static void spoilt_capture(size_t start, const char *line)
+{
+    const size_t length = write_capture();
+    size_t n;
+    int byte;
+    CHECK(memcmp(capture + start, line, strlen(line)) == 0);
+    for (n = 0; n < strlen(line); n++)
+        for (byte = 0; byte < 256; byte++) {
+            const int digit = strlen(line) > 5 && memchr(hexadecimal, line[n], 16) != NULL;
+            if (byte == line[n] || (digit && memchr(hexadecimal, byte, 16) != NULL))
+                continue;
+            capture[start + n] = (uint8_t)byte;
+            CHECK(sccc_judge(33, labels, SCCC_SYMBOLS, capture, length).number == SCCC_BAD_CAPTURE);
+            capture[start + n] = (uint8_t)line[n];
+        }
+}
+
+/* Too few lines and too many, an end without its line feed, and more behind it. */
+static void ends_of_captures(void)
+{
+    static const char *const more[] = {
+        "\n", "\r\n", " ", "L", "LOST", "LOST\n", "\x1A", "\xFF", "3FF0000000000000,3FF0000000000000\n",
+    };
+    int pass;
+    size_t j;
+    for (pass = 0; pass < 2; pass++) {
+        size_t length, line;
+        lose_all();
+        if (pass == 1)
+            put_points();
+        length = write_capture();
+        line = length / SCCC_SYMBOLS;
+        CHECK(line == (pass == 0 ? 5 : 34));
+        CHECK(pass == 0 || length == SCCC_LONGEST_CAPTURE);
+        NO_CAPTURE(0);
+        for (j = 1; j <= line; j++) {
+            NO_CAPTURE(j);
+            NO_CAPTURE(length - j);
+            NO_CAPTURE(length / 2 - j);
+        }
+        for (j = 0; j < LENGTH(more); j++) {
+            write_capture();
+            memcpy(capture + length, more[j], strlen(more[j]));
+            NO_CAPTURE(length + strlen(more[j]));
+        }
+        write_capture();
+        capture[length] = 0;
+        NO_CAPTURE(length + 1);
+        capture[length - 1] = 0;
+        NO_CAPTURE(length);
+    }
+}
+
+static void captures_refused(void)
+{
+    no_lines_of_captures();
+    lose_all();
+    put_pair(4050, 1.0, -1.0);
+    spoilt_capture(5 * (size_t)4050, "3FF0000000000000,BFF0000000000000\n");
+    spoilt_capture(5 * (size_t)4049, "LOST\n");
+    ends_of_captures();
+}
+
+/* Each check with everything behind it failing too; any byte is a label, so 3 never fails. */
+static void checks_of_judge(void)
+{
+    static const size_t lengths[] = {0, 1, 8099, 8101, SCCC_FRAME_LABELS};
+    const uint64_t infinite = UINT64_C(0x7FF0000000000000);
+    size_t good, both, j;
+    uint64_t f;
+    put_points();
+    good = write_capture();
+    for (j = 0; j < LENGTH(not_point_formats); j++)
+        JUDGE_REFUSED(SCCC_BAD_FORMAT, not_point_formats[j], SCCC_SYMBOLS, good);
+    for (j = 0; j < LENGTH(lengths); j++)
+        JUDGE_REFUSED(SCCC_BAD_LENGTH, 33, lengths[j], good);
+    /* what is infinite stands before the line that is none */
+    put_bits(0, infinite, infinite);
+    both = capture_with(8099, "lost\n", 5);
+    NO_CAPTURE(both);
+    NO_CAPTURE(0);
+    for (j = 0; j < LENGTH(lengths); j++) {
+        JUDGE_REFUSED(SCCC_BAD_LENGTH, 37, lengths[j], both);
+        JUDGE_REFUSED(SCCC_BAD_LENGTH, 37, lengths[j], 0);
+    }
+    for (j = 0; j < LENGTH(not_point_formats); j++) {
+        JUDGE_REFUSED(SCCC_BAD_FORMAT, not_point_formats[j], 8099, both);
+        JUDGE_REFUSED(SCCC_BAD_FORMAT, not_point_formats[j], 0, 0);
+    }
+    JUDGE_REFUSED(SCCC_BAD_COORDINATE, 33, SCCC_SYMBOLS, write_capture());
+    lose_all();
+    for (j = 0; j < SCCC_SYMBOLS; j++)
+        labels[j] = (uint8_t)j;
+    for (f = SCCC_FIRST_POINT_FORMAT; f <= SCCC_FORMATS; f++)
+        JUDGED(f, 0, 0, 8100, 1, 0);
+}
+
+/* Neither list is written, so the labels may be the capture's own first bytes. */
+static void one_list_twice(void)
+{
+    size_t length;
+    sccc_judgement r;
+    put_points();
+    lose(8099);
+    length = write_capture();
+    r = sccc_judge(33, capture, SCCC_SYMBOLS, capture, length);
+    CHECK(r.number == SCCC_PASSED && r.agreeing + r.differing == 8099 && r.lost == 1);
+    lose_all();
+    length = write_capture();
+    r = sccc_judge(33, capture, SCCC_SYMBOLS, capture, length);
+    CHECK(r.number == SCCC_PASSED && r.lost == 8100 && r.none == 1);
+}
+
+static void judge(void)
+{
+    uint64_t f;
+    CHECK(sizeof(sccc_judgement) == 6 * sizeof(uint64_t));
+    CHECK(offsetof(sccc_judgement, first) == 5 * sizeof(uint64_t));
+    CHECK(SCCC_BAD_CAPTURE == 18 && SCCC_BAD_COORDINATE == 19);
+    CHECK(SCCC_LONGEST_CAPTURE == 275400 && SCCC_LONGEST_CAPTURE == 34 * SCCC_SYMBOLS);
+    for (f = SCCC_FIRST_POINT_FORMAT; f <= SCCC_FORMATS; f++)
+        counts_of_format(f);
+    own_points();
+    equally_near();
+    corners();
+    coordinates_refused();
+    captures_refused();
+    checks_of_judge();
+    one_list_twice();
+}
+
 /* A thread's own buffers: it encodes one block of its format a few times over. */
 typedef struct {
     uint64_t f;
@@ -2213,6 +2653,7 @@ static void *call_each(void *argument)
     sccc_job_shorten(longer, sizeof longer - 1, moved, sizeof moved);
     sccc_point(j->f, 255, SCCC_LAST_CODE, 1);
     sccc_points(j->f, slots + SCCC_HEADER_SLOTS, 540, SCCC_LAST_CODE, 0, coordinates, 1080);
+    sccc_judge(j->f, labels, SCCC_SYMBOLS, capture, SCCC_LONGEST_CAPTURE);
     return NULL;
 }
 
@@ -2230,6 +2671,8 @@ static void stack_of_format(uint64_t f)
     memset(&j, 0, sizeof j);
     j.f = f;
     memset(labels, 0, sizeof labels);
+    put_all(0.3137, 0.3137);
+    CHECK(write_capture() == SCCC_LONGEST_CAPTURE);
     fill(memory.bytes, sizeof memory.bytes);
     CHECK(pthread_attr_init(&attributes) == 0);
     CHECK(pthread_attr_setstack(&attributes, memory.bytes, sizeof memory.bytes) == 0);
@@ -2277,6 +2720,7 @@ int main(void)
         {"texts that are no job line", no_lines},
         {"sccc_point", point},
         {"sccc_points", points},
+        {"sccc_judge", judge},
         {"threads", threads},
         {"stack", stack},
     };
