@@ -9,6 +9,7 @@ use lib.ListN.{length}
 use Rattle.std.specs.Option.{option_or}
 use Rattle.std.specs.Prelude.{Option, Some, None, option_map}
 use Rattle.bits.proofs.Cases.{by_cases}
+use Rattle.bits.proofs.Legal.{or_false}
 use Rattle.nearest.specs.Nearest.{nearest_label}
 use Rattle.samples.specs.declared.Sample.{Sample}
 use Rattle.samples.specs.declared.Sample.TheVariants.{Lost, Pair}
@@ -53,10 +54,6 @@ added t place labels samples =
 or-none : (f : Option ℕ) → option_or f None ≡ f
 or-none None = refl
 or-none (Some k) = refl
-
-or_false : (o : Bool) → (o || false) ≡ o
-or_false true = refl
-or_false false = refl
 
 outside_next : (o r rest : Bool) → ((o || not r) || not rest) ≡ (o || not (r && rest))
 outside_next true r rest = refl

@@ -1,11 +1,11 @@
 -- The nearest label: its distance is at most any label's, and less than that of each lower label, for coordinates that are numbers.
 use mathlib.Core.Path.{◌≡◌, refl}
-use mathlib.Core.Bool.{Bool, true, false, ◌&&◌}
+use mathlib.Core.Bool.{Bool, true, ◌&&◌}
 use Prim.Native.Nat.{ℕ, zero, suc, ◌<◌}
 use native.Mathlib.Omega.{arith}
 use lib.Dec.{eqb, ltb}
 use lib.Ieee.{Float, nan, inf, fin, lt, round}
-use Rattle.std.specs.Float.{NotNan, ◌≤ᶠ◌, ◌<ᶠ◌}
+use Rattle.std.specs.Float.{NotNan, float_is_finite, ◌≤ᶠ◌, ◌<ᶠ◌}
 use Rattle.std.specs.Prelude.{if◌then◌else◌}
 use Rattle.std.proofs.lemmas.Float.{T_from_true, T_from_false, le_refl, le_of_lt, le_of_not-lt, lt_of_lt_of_le, lt_irrefl}
 use borrow.Author.Tests.{eqb-true, eqb-false, ltb-true, ltb-false}
@@ -62,20 +62,15 @@ module _ (d : ℕ → Float) where
   least_is (suc n) numbers = turned (suc n) (least d (suc n)) numbers (least_is n (λ k h. numbers k (omega arith)))
 
 -- each point's coordinates are finite: one test of all, by computing
-is_finite : Float → Bool
-is_finite nan = false
-is_finite (inf s) = false
-is_finite (fin s m e) = true
-
-finite : (x : Float) → is_finite x ≡ true → Finite x
-unfolding is_finite
+finite : (x : Float) → float_is_finite x ≡ true → Finite x
+unfolding float_is_finite
 finite nan t = cc
 finite (inf s) t = cc
 finite (fin s m e) t = Finite.number s m e
 
 plain : ℕ → Bool
-unfolding is_finite point_of ten_thousandths entries round
-plain label = is_finite (point_of label).i && is_finite (point_of label).q
+unfolding float_is_finite point_of ten_thousandths entries round
+plain label = float_is_finite (point_of label).i && float_is_finite (point_of label).q
 
 module _ (i q : Float) (fi : Finite i) (fq : Finite q) where
   distance_to-number : (label : ℕ) → label < points → NotNan (distance_to i q label)

@@ -6,6 +6,7 @@ use native.Mathlib.Numerals.{add-one}
 use native.Mathlib.Omega.{arith}
 use lib.Ieee.{Float, lt}
 use Rattle.std.specs.Prelude.{if◌then◌else◌}
+use Rattle.bits.proofs.Legal.{or_false}
 use Rattle.nearest.specs.declared.Nearest.{Nearest}
 use Rattle.nearest.specs.Nearest.{distance_to, least}
 use Rattle.nearest.specs.Search.{nearest_of, row, some_nearer}
@@ -21,10 +22,6 @@ right_false false b e = e
 or_assoc : (a b c : Bool) → ((a || b) || c) ≡ (a || (b || c))
 or_assoc true b c = refl
 or_assoc false b c = refl
-
-or_false : (a : Bool) → (a || false) ≡ a
-or_false true = refl
-or_false false = refl
 
 module _ (i q : Float) where
   abbrev d : ℕ → Float

@@ -16,7 +16,7 @@ use Rattle.samples.proofs.Words.{value_low}
 abbrev valued : ℕ → ℕ
 valued b = if is_digit b then digit_value b else 16
 
--- of n bytes, from b on
+-- the entries of n bytes, from b on
 unfoldable values_from : ℕ → ℕ → List ℕ
 values_from zero b = []
 values_from (suc n) b = valued b ∷ values_from n (suc b)

@@ -18,7 +18,11 @@ use Rattle.samples.specs.Reader.{line_read, pair_bytes, pair_of}
 use Rattle.samples.specs.Text.{Line, begins, digits, hexadecimal, line_in, line_text, pair_in, sample_of, word_in}
 use Rattle.samples.proofs.Words.{length-hexadecimal}
 
-length-lost : length (line_text None) ≡ 5
+-- bytes of a lost sample's line
+abbrev pub lost_bytes : ℕ
+lost_bytes = 5
+
+length-lost : length (line_text None) ≡ lost_bytes
 unfolding line_text
 length-lost = refl
 
@@ -33,19 +37,19 @@ length-pair text =
 
 -- std's test of a prefix
 abbrev pub LostFound : List ℕ → Bool → Type 0
-LostFound text found = pointwise nat_eq (take 5 text) (ascii "LOST\n") ≡ found
+LostFound text found = pointwise nat_eq (take lost_bytes text) (ascii "LOST\n") ≡ found
 
 module _ (text : List ℕ) where
   begins-lost : {found : Bool} → LostFound text found → begins (line_text None) text ≡ found
   unfolding line_text
-  begins-lost e = sym (same_found (take 5 text) (ascii "LOST\n")) ∙ e
+  begins-lost e = sym (same_found (take lost_bytes text) (ascii "LOST\n")) ∙ e
 
   read_as : (line : Line) → line_in text ≡ line
       → line_read text ≡ (if begins (line_text line) text then Some (sample_of line, drop (length (line_text line)) text) else None)
   unfolding line_read
   read_as line is = rw is refl
 
-  pub lost_read : LostFound text true → Some (Lost, drop 5 text) ≡ line_read text
+  pub lost_read : LostFound text true → Some (Lost, drop lost_bytes text) ≡ line_read text
   unfolding line_in
   lost_read found =
       let t = begins-lost found in

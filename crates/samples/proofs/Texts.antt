@@ -1,4 +1,4 @@
--- Texts of samples, line by line; and that the reader finds the lines of which a text is, and no others.
+-- Texts of samples, line by line: whether a text is one, and of which samples, hangs on its first line and on what stands behind.
 use mathlib.Core.Path.{◌≡◌, refl, ◌∙◌}
 use mathlib.Core.Bool.{false, ◌&&◌}
 use mathlib.Core.List.{List, ◌∷◌}

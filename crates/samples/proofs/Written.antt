@@ -19,7 +19,7 @@ use Rattle.bits.proofs.Same.{same_self, same-equal}
 use Rattle.bits.proofs.Table.{left-true, right_true}
 use Rattle.samples.specs.Reader.{is_digit, pair_bytes}
 use Rattle.samples.specs.Text.{Line, TextOf, begins, digits, hexadecimal, is_text, line_fits, line_in, line_text, lines_in, pair_in, sample_of, samples_in, text_of, word_fits, word_in}
-use Rattle.samples.proofs.Lines.{length-pair, pair-front}
+use Rattle.samples.proofs.Lines.{length-pair, lost_bytes, pair-front}
 use Rattle.samples.proofs.Pairs.{Written, first, second, written}
 use Rattle.samples.proofs.Texts.{text_next}
 use Rattle.samples.proofs.Words.{all_digits, hexadecimal-digits, hexadecimal-value, length-hexadecimal, word-low}
@@ -52,7 +52,7 @@ module _ (i q : ℕ) (rest : List ℕ) where
       by_cases
       (begins (line_text None) whole)
       (λ t.
-      let L : get_or whole 0 0 ≡ code "L" = sym (get_or-take 5 whole 0 0 (omega arith)) ∙ ap (λ l. get_or l 0 0) (same-equal (take 5 whole) (line_text None) t) in
+      let L : get_or whole 0 0 ≡ code "L" = sym (get_or-take lost_bytes whole 0 0 (omega arith)) ∙ ap (λ l. get_or l 0 0) (same-equal (take lost_bytes whole) (line_text None) t) in
       let digit = leading (hexadecimal digits i) (hexadecimal-digits digits i) (omega (arith, length-hexadecimal digits i)) in
       absurd (false≢true (ap is_digit (sym L ∙ first_byte) ∙ digit)))
       (λ f. f)
@@ -136,6 +136,5 @@ pub text_agrees : (n : ℕ) (text : List ℕ) → (is_text n text ≡ true) ↔ 
 unfolding is_text
 text_agrees n text = (
   (λ t. record { lines = lines_in n text; many = length-lines n text; fit = all_fit n text t; written = same-equal text _ t }),
-  (λ o.
-      ap (λ l. same text (text_of l)) (lines_are n text o) ∙ ap (same text) (sym o.written) ∙ same_self text),
+  (λ o. ap (λ l. same text (text_of l)) (lines_are n text o) ∙ ap (same text) (sym o.written) ∙ same_self text),
 )
