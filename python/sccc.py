@@ -441,7 +441,8 @@ def judge(format: SupportsIndex, labels: Buffer, capture: Buffer) -> Judgement:
     Checks: 1, the format is 33 to 37; 2, there are 8,100 labels; 18, capture is 8,100 such lines and nothing else; 19, each coordinate
     is a number from -2 to 2. Every byte is a label of these formats, so 3 never fails.
     """
-    r = _loaded().sccc_judge(_number(format), *_lent(_view("labels", labels), _view("capture", capture)))
+    given, text = _view("labels", labels), _view("capture", capture)
+    r = _loaded().sccc_judge(_number(format), *_lent(given, text))
     _pass(r.number)
     return Judgement(r.agreeing, r.differing, r.lost, None if r.none else r.first)
 

@@ -1451,7 +1451,8 @@ class Judgements(Case):
             (33, bytes([OTHER]) * 8099 + b"\0", OTHER_LINE * 8100, (0, 8099, 1, 0, 0, 8099)),
             (33, bytes(8100), OTHER_LINE * 8100, (0, 0, 8100, 0, 0, 0)),
         ):
-            r = sccc._loaded().sccc_judge(f, *sccc._lent(sccc._view("labels", labels), sccc._view("capture", text.encode())))
+            views = sccc._view("labels", labels), sccc._view("capture", text.encode())
+            r = sccc._loaded().sccc_judge(f, *sccc._lent(*views))
             self.assertEqual((r.number, r.agreeing, r.differing, r.lost, r.none, r.first), due)
 
     def test_capture(self):
