@@ -99,6 +99,7 @@ pub fn self_check(annex_c: &AnnexC) -> Report {
     waveform::sequences(&mut report);
     waveform::turns(&mut report);
     judge::readings(&mut report);
+    judge::rounding(&mut report);
     judge::ties(&mut report);
     annex_c_tables(&mut report, annex_c);
     if report.failed {

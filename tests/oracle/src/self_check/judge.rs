@@ -17,6 +17,16 @@ const SQUARE: i128 = (ONE as i128 * PART).pow(2);
 /// pair from -2 to 2 a rounded one is off by less than 2^-46.
 const ROUNDING: i128 = SQUARE >> 44;
 
+/// A point's coordinate, which is no smaller than 2^-4, is a whole number of this part
+/// of one.
+const FINE_PART: i128 = 1 << 56;
+
+/// Whole numbers of this part are floats, up to 2.
+const FLOAT_PART: i128 = 1 << 52;
+
+/// Bits that a float holds.
+const FLOAT_BITS: u32 = 53;
+
 /// Pairs that are drawn, from so many octets each.
 const PAIRS: usize = 20_000;
 const OCTETS: usize = 12;
@@ -37,8 +47,24 @@ pub fn readings(report: &mut Report) {
     );
     let beside = pairs_beside_middles(&points);
     report.check(
-        "document 02, L14: so is a pair some 2^-29 off the middle of two points that are less than a quarter apart, each of 3288 pairs",
+        "document 02, L14: so is a pair some 2^-29 off the middle of two neighbours, each of 3288 pairs",
         beside.len() == 3288 && beside.iter().all(exact),
+    );
+}
+
+/// The label that is read where rounding decides.
+pub fn rounding(report: &mut Report) {
+    let whole = |coordinate: f64| (coordinate * FINE_PART as f64) as i128;
+    let points: Vec<[i128; 2]> = (constellation().iter())
+        .map(|point| [point.I, point.Q].map(whole))
+        .collect();
+    let pairs = pairs_in_middles(&points);
+    let float = |parts: i128| parts as f64 / FINE_PART as f64;
+    let same =
+        |&[I, Q]: &[i128; 2]| nearest(at(float(I), float(Q))) == read_rounded(&points, [I, Q]);
+    report.check(
+        "document 02, L14: in and around the middle of two neighbours a pair is read as whole numbers say that are rounded to 53 bits at each operation, each of 20550 pairs",
+        pairs.len() == 20_550 && pairs.iter().all(same),
     );
 }
 
@@ -101,18 +127,58 @@ fn drawn_pairs() -> Vec<[i128; 2]> {
     pairs.map(|(I, Q)| [part(I), part(Q)]).collect()
 }
 
-/// Of each two points that are less than a quarter apart the middle, moved a little to
-/// four sides, along no line in which points are mirrored.
+/// The labels of each two points that are less than a quarter apart.
+fn neighbours(points: &[[i64; 2]]) -> Vec<[usize; 2]> {
+    let apart = |a: [i64; 2], b: [i64; 2]| (a[0] - b[0]).pow(2) + (a[1] - b[1]).pow(2);
+    let near = |&[i, j]: &[usize; 2]| apart(points[i], points[j]) < (ONE / 4).pow(2);
+    let twos = (0..points.len()).flat_map(|i| (0..i).map(move |j| [i, j]));
+    twos.filter(near).collect()
+}
+
+/// Of each two neighbours the middle, moved a little to four sides, along no line in
+/// which points are mirrored.
 fn pairs_beside_middles(points: &[[i64; 2]]) -> Vec<[i128; 2]> {
     let step = PART >> 30;
     let moves = [[1, 2], [-2, 1], [-1, -2], [2, -1]];
-    let apart = |[a, b]: [[i64; 2]; 2]| (a[0] - b[0]).pow(2) + (a[1] - b[1]).pow(2);
-    let middle = |[a, b]: [[i64; 2]; 2]| [0, 1].map(|k| parts(a[k] + b[k]) / 2);
-    let twos = (0..points.len()).flat_map(|i| (0..i).map(move |j| [points[i], points[j]]));
-    twos.filter(|&two| apart(two) < (ONE / 4).pow(2))
-        .map(middle)
+    let middle = |[a, b]: [usize; 2]| [0, 1].map(|k| parts(points[a][k] + points[b][k]) / 2);
+    let middles = neighbours(points).into_iter().map(middle);
+    middles
         .flat_map(|[I, Q]| moves.map(|[i, q]| [I + i * step, Q + q * step]))
         .collect()
+}
+
+/// Of each two neighbours a float in the middle, and those around it, two to each
+/// side.
+fn pairs_in_middles(points: &[[i128; 2]]) -> Vec<[i128; 2]> {
+    let step = FINE_PART / FLOAT_PART;
+    let middle =
+        |[a, b]: [usize; 2]| [0, 1].map(|k| (points[a][k] + points[b][k]) / (2 * step) * step);
+    let middles = neighbours(&whole_points()).into_iter().map(middle);
+    let around =
+        |[I, Q]: [i128; 2]| (0..25).map(move |n| [I + (n / 5 - 2) * step, Q + (n % 5 - 2) * step]);
+    middles.flat_map(around).collect()
+}
+
+/// The label that is read of a pair, in whole numbers.
+fn read_rounded(points: &[[i128; 2]], pair: [i128; 2]) -> u8 {
+    let square = |a: i128, b: i128| rounded(rounded(a - b).pow(2));
+    let distance = |&[I, Q]: &[i128; 2]| rounded(square(pair[0], I) + square(pair[1], Q));
+    let distances: Vec<i128> = points.iter().map(distance).collect();
+    let least = distances.iter().min();
+    let label = distances
+        .iter()
+        .position(|distance| Some(distance) == least);
+    label.expect("256 points") as u8
+}
+
+/// The nearest number that has so few bits before its zeros, of two the one whose
+/// last bit is 0.
+fn rounded(number: i128) -> i128 {
+    let bits = i128::BITS - number.unsigned_abs().leading_zeros();
+    let unit = 1 << bits.saturating_sub(FLOAT_BITS);
+    let (whole, rest) = (number.div_euclid(unit), number.rem_euclid(unit));
+    let up = 2 * rest > unit || 2 * rest == unit && whole % 2 != 0;
+    (whole + i128::from(up)) * unit
 }
 
 /// Ten-thousandths in whole parts, what is left over cut off.
@@ -142,6 +208,7 @@ mod tests {
     fn what_exact_arithmetic_and_symmetry_say() {
         let mut report = Report::default();
         readings(&mut report);
+        rounding(&mut report);
         ties(&mut report);
         assert!(!report.failed, "{}", report.text);
     }
