@@ -8,12 +8,13 @@ use crate::tally::Outcome::{
     self, Block, Different, Longer, Old, Passed, PilotsOff, PilotsOn, Refused, RefusedFor, Same,
     Scrambled, Unscrambled, Wait,
 };
-use crate::{encoding, job_line, shared, slicer, waveform};
+use crate::{encoding, job_line, judge, shared, slicer, waveform};
 use interface::{Comparison, FormatInfo, Interleaved, RunAnswer, SectionRange, Stepped};
 use oracle::annex_c::{AnnexC, UpperPosition};
 use oracle::checks::{
-    self, BLOCK_WAITS, CHANNEL_LENGTH, CODE, CUT_COUNT, CUT_PLACE, ELEMENT, FORMAT, FRAME_LENGTH,
-    JOB_LINE, LENGTH, NO_WAY_BACK, OUTPUT, PASSED, PATTERN, PILOTS, POSITION, WORKSPACE,
+    self, BLOCK_WAITS, CAPTURE, CHANNEL_LENGTH, CODE, COORDINATE, CUT_COUNT, CUT_PLACE, ELEMENT,
+    FORMAT, FRAME_LENGTH, JOB_LINE, LENGTH, NO_WAY_BACK, OUTPUT, PASSED, PATTERN, PILOTS, POSITION,
+    WORKSPACE,
 };
 use oracle::framing::{self, FRAME_LABELS, FRAME_SLOTS, SECTIONS};
 use oracle::tables::{self, Format, SECTION};
@@ -32,7 +33,7 @@ pub struct Call {
     pub compare: fn(&mut Generator, &AnnexC) -> Compared,
 }
 
-pub const CALLS: [Call; 21] = [
+pub const CALLS: [Call; 22] = [
     Call {
         name: "format",
         outcomes: &[Passed, Refused(FORMAT)],
@@ -255,6 +256,19 @@ pub const CALLS: [Call; 21] = [
         ],
         weight: 4,
         compare: waveform::points_call,
+    },
+    Call {
+        name: "judge",
+        outcomes: &[
+            Same,
+            Different,
+            Refused(FORMAT),
+            Refused(LENGTH),
+            Refused(CAPTURE),
+            Refused(COORDINATE),
+        ],
+        weight: 4,
+        compare: judge::judge_call,
     },
 ];
 

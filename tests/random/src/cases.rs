@@ -4,28 +4,28 @@
 use crate::calls::{Call, Compared, CALLS};
 use crate::generator::Generator;
 use crate::tally::{Met, Outcome, Tally};
-use crate::{shared, slicer, three, waveform};
+use crate::{judge, shared, slicer, three, waveform};
 use oracle::annex_c::AnnexC;
 use oracle::tables::{self, Format};
 use std::time::{Duration, Instant};
 
 /// So many cases are compared however slow the machine is, so that every
 /// outcome is met. The least likely is a frame's refusal with 5 where only the
-/// pilots have no room. Of 87 cases 6 are frames, of 7 frames one is to fail this
+/// pilots have no room. Of 91 cases 6 are frames, of 7 frames one is to fail this
 /// check first, of 2 choices one is pilots on, and of 4 rooms that are too short
-/// for it 3 would do without: 6/87 x 1/7 x 1/2 x 3/4 = 1/271. Next come ten: 12 and
+/// for it 3 would do without: 6/91 x 1/7 x 1/2 x 3/4 = 1/283. Next come ten: 12 and
 /// 13, for the outer cuts, the inner ones or both, and 6 of either move, for a text
-/// that is no line or a line of the other form. Of 87 cases 9 encode by segments, of
+/// that is no line or a line of the other form. Of 91 cases 9 encode by segments, of
 /// 9 of those one is to fail this check first, and of 3 faults one is in these cuts:
-/// 9/87 x 1/9 x 1/3 = 1/261. Of 87 cases 4 lengthen a line and 6 shorten one, of 6
+/// 9/91 x 1/9 x 1/3 = 1/273. Of 91 cases 4 lengthen a line and 6 shorten one, of 6
 /// and of 9 of those one is to fail this check first, and of 2 faults it is one:
-/// 4/87 x 1/6 x 1/2 and 6/87 x 1/9 x 1/2, which are 1/261 too. Then comes a push's
-/// refusal with 3. Of 87 cases 4 are pushes, of 8 pushes one is to fail this check
+/// 4/91 x 1/6 x 1/2 and 6/91 x 1/9 x 1/2, which are 1/273 too. Then comes a push's
+/// refusal with 3. Of 91 cases 4 are pushes, of 8 pushes one is to fail this check
 /// first; of 5 slicers that are drawn for it one has no bits waiting, and of 8
-/// memories one is empty: 4/87 x 1/8 x 4/5 x 7/8 = 1/249. So 11,800 cases, the runs
-/// taken off, miss one of the outcomes, 136 in all, less than once in 10^17 runs of
+/// memories one is empty: 4/91 x 1/8 x 4/5 x 7/8 = 1/260. So 12,600 cases, the runs
+/// taken off, miss one of the outcomes, 171 in all, less than once in 10^17 runs of
 /// this program.
-const LEAST: u64 = 11_800;
+const LEAST: u64 = 12_600;
 
 /// A kind of run: its name, the outcomes that its calls can have, how many cases
 /// have one of it, and its comparison.
@@ -36,7 +36,7 @@ struct Run {
     compare: fn(&mut Generator, &AnnexC, &Format) -> Compared<Vec<Met>>,
 }
 
-const RUNS: [Run; 4] = [
+const RUNS: [Run; 5] = [
     Run {
         name: "slicer run",
         outcomes: slicer::OUTCOMES,
@@ -61,6 +61,13 @@ const RUNS: [Run; 4] = [
         outcomes: three::OUTCOMES,
         every: 300,
         compare: three::run,
+    },
+    // Of 37 formats five have points.
+    Run {
+        name: "capture run",
+        outcomes: judge::OUTCOMES,
+        every: 50,
+        compare: judge::run,
     },
 ];
 

@@ -7,6 +7,7 @@ mod draw;
 mod encoding;
 mod generator;
 mod job_line;
+mod judge;
 mod lent;
 mod shared;
 mod slicer;

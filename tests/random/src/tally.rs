@@ -13,7 +13,8 @@ pub enum Outcome {
     /// A call with shared memory passed, which held its size or was built.
     Held,
     Built,
-    /// A comparison passed, of lists that are the same or that differ.
+    /// A comparison passed, of lists that are the same or that differ, or a judgement
+    /// of a capture in which nothing differs or something does.
     Same,
     Different,
     /// A slicer was asked for a block, and has one or has to wait.
@@ -25,11 +26,13 @@ pub enum Outcome {
     /// A point was given, as the table has it or turned by a code number.
     Unscrambled,
     Scrambled,
+    /// A capture passed that holds what the name says.
+    Judged(&'static str),
     /// With the number of the check that failed.
     Refused(u64),
     /// The same, and which of two lists failed it; that a frame has no room for its
-    /// pilots, and would have without; that the entries of a memory failed it; or
-    /// that a line to be moved is one of the other form.
+    /// pilots, and would have without; that the entries of a memory failed it; that
+    /// a line to be moved is one of the other form; or what is wrong with a capture.
     RefusedFor(u64, &'static str),
 }
 
@@ -55,8 +58,9 @@ impl Display for Outcome {
             Outcome::Longer => write!(f, "longer"),
             Outcome::Unscrambled => write!(f, "unscrambled"),
             Outcome::Scrambled => write!(f, "scrambled"),
+            Outcome::Judged(kind) => write!(f, "{kind}"),
             Outcome::Refused(number) => write!(f, "{number}"),
-            Outcome::RefusedFor(number, list) => write!(f, "{number} {list}"),
+            Outcome::RefusedFor(number, what) => write!(f, "{number} {what}"),
         }
     }
 }

@@ -123,13 +123,13 @@ fn shown(coordinate: f64) -> String {
 }
 
 /// A format that has points.
-fn format(generator: &mut Generator) -> Format {
+pub fn format(generator: &mut Generator) -> Format {
     let formats: Vec<u64> = FORMATS.collect();
     tables::format(generator.pick(&formats)).expect("a format")
 }
 
 /// Its number, or one that has no points, which may be another format's.
-fn format_number(generator: &mut Generator, f: &Format, fails: bool) -> u64 {
+pub fn format_number(generator: &mut Generator, f: &Format, fails: bool) -> u64 {
     if !fails {
         return f.number;
     }
