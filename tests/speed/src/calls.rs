@@ -1,9 +1,10 @@
 //! The calls that are timed, on both sides, and their arguments.
 
 use crate::plain::{self, Plain};
+use crate::search::Capture;
 use interface::{
-    BlockAnswer, Comparison, RunAnswer, SegmentsAnswer, SharedAnswer, Slicer, SlicerAnswer,
-    UNSCRAMBLED,
+    BlockAnswer, Comparison, Judgement, RunAnswer, SegmentsAnswer, SharedAnswer, Slicer,
+    SlicerAnswer, UNSCRAMBLED,
 };
 use oracle::digest::{seeded_block, seeded_frame};
 use oracle::framing::{FRAME_LABELS, PILOT_FRAME_SLOTS, SECTIONS};
@@ -24,6 +25,7 @@ pub trait Side {
     fn push(&self, slicer: Slicer, frame: &[u8], waiting: &mut [u8]) -> SlicerAnswer;
     fn block(&self, slicer: Slicer, waiting: &mut [u8], out: &mut [u8]) -> BlockAnswer;
     fn points(&self, format: u64, slots: &[u16], code: u64, place: u64, out: &mut [u64]) -> u8;
+    fn judge(&self, format: u64, labels: &[u8], capture: &Capture) -> Judgement;
 }
 
 pub struct Library;
@@ -60,6 +62,10 @@ impl Side for Library {
     fn points(&self, format: u64, slots: &[u16], code: u64, place: u64, out: &mut [u64]) -> u8 {
         interface::points(format, slots, code, place, out)
     }
+
+    fn judge(&self, format: u64, labels: &[u8], capture: &Capture) -> Judgement {
+        interface::judge(format, labels, &capture.text)
+    }
 }
 
 impl Side for Plain {
@@ -94,6 +100,10 @@ impl Side for Plain {
     fn points(&self, format: u64, slots: &[u16], code: u64, place: u64, out: &mut [u64]) -> u8 {
         self.points(format, slots, code, place, out)
     }
+
+    fn judge(&self, _: u64, labels: &[u8], capture: &Capture) -> Judgement {
+        self.judge(labels, capture)
+    }
 }
 
 /// Octets of the usual frame, and of the longest.
@@ -126,10 +136,13 @@ pub enum Call {
     Points,
     /// The same with a code number.
     PointsTurned,
+    /// Of a capture that has a pair for each label: the text on one side, the pairs
+    /// alone on the other.
+    Judge,
 }
 
 impl Call {
-    pub const ALL: [Call; 13] = [
+    pub const ALL: [Call; 14] = [
         Call::Run,
         Call::Encode,
         Call::Labels,
@@ -143,6 +156,7 @@ impl Call {
         Call::BlockLongest,
         Call::Points,
         Call::PointsTurned,
+        Call::Judge,
     ];
 
     pub fn name(self) -> &'static str {
@@ -160,6 +174,7 @@ impl Call {
             Call::BlockLongest => "block-65536",
             Call::Points => "points",
             Call::PointsTurned => "points-turned",
+            Call::Judge => "judge",
         }
     }
 
@@ -170,7 +185,9 @@ impl Call {
     /// Whether the format has it.
     pub fn is_of(self, format: &Format) -> bool {
         match self {
-            Call::Points | Call::PointsTurned => waveform::FORMATS.contains(&format.number),
+            Call::Points | Call::PointsTurned | Call::Judge => {
+                waveform::FORMATS.contains(&format.number)
+            }
             _ => true,
         }
     }
@@ -187,7 +204,8 @@ impl Call {
             | Call::PushUsual
             | Call::PushLongest
             | Call::BlockUsual
-            | Call::BlockLongest => Some(1.5),
+            | Call::BlockLongest
+            | Call::Judge => Some(1.5),
             Call::Points | Call::PointsTurned => None,
         }
     }
@@ -203,6 +221,7 @@ impl Call {
             Call::Frame | Call::FramePilots => ("label", FRAME_LABELS),
             Call::CompareSame | Call::CompareDiffer => ("label", SECTION),
             Call::Points | Call::PointsTurned => ("symbol", FRAME_LABELS),
+            Call::Judge => ("sample", SECTION),
         }
     }
 }
@@ -223,6 +242,8 @@ pub struct Arguments {
     slots: Vec<u16>,
     usual_frame: Vec<u8>,
     longest_frame: Vec<u8>,
+    /// What was sent for the labels.
+    capture: Capture,
 }
 
 impl Arguments {
@@ -243,6 +264,7 @@ impl Arguments {
             codeword: buffers.codeword,
             slots: frame_labels.iter().map(|&label| label.into()).collect(),
             frame_labels,
+            capture: Capture::of(&buffers.labels),
             equal_labels: buffers.labels.clone(),
             labels: buffers.labels,
             changed_labels,
@@ -313,6 +335,7 @@ pub enum Answer {
     Comparison(Comparison),
     Slicer(SlicerAnswer),
     Block(BlockAnswer),
+    Judgement(Judgement),
 }
 
 impl Answer {
@@ -323,6 +346,7 @@ impl Answer {
             Answer::Comparison(answer) => answer.number,
             Answer::Slicer(answer) => answer.number,
             Answer::Block(answer) => answer.number,
+            Answer::Judgement(answer) => answer.number,
         }
     }
 }
@@ -351,6 +375,7 @@ pub fn make(call: Call, side: &impl Side, a: &Arguments, b: &mut Buffers) -> Ans
         Call::BlockLongest => block(LONGEST, &mut b.waiting, &mut b.block),
         Call::Points => points(UNSCRAMBLED, &mut b.points),
         Call::PointsTurned => points(CODE, &mut b.points),
+        Call::Judge => Answer::Judgement(side.judge(format, &a.labels, &a.capture)),
     }
 }
 

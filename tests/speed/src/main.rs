@@ -1,6 +1,7 @@
-//! Times the library's calls beside a plain encoder's, its encoders by segments
-//! and with shared memory beside its own encode, its encode with BCH pieces
-//! beside that without, and its call for a point alone.
+//! Times the library's calls beside a plain encoder's, its judgement beside a plain
+//! search in C, its encoders by segments and with shared memory beside its own
+//! encode, its encode with BCH pieces beside that without, and its call for a point
+//! alone.
 //!
 //! `speed` prints six tables, `speed calls`, `speed segments`, `speed shared`,
 //! `speed bch`, `speed formats` and `speed point` one of them.
@@ -12,6 +13,7 @@ mod calls;
 mod measure;
 mod plain;
 mod points;
+mod search;
 mod slicer;
 mod symbols;
 
@@ -31,8 +33,8 @@ const ANNEX_C: &str = include_str!("../../../data/annex-c.csv");
 const USAGE: &str = "usage: speed [calls | segments | shared | bch | formats | point |
               --callgrind-call CALL FORMAT N]
   CALL is library- or plain-, and then run, encode, labels, frame, frame-pilots, compare-same,
-  compare-differ, push-1115, push-65536, block-1115, block-65536, or with formats 33 to 37 points
-  or points-turned; or it is library-shared-held or library-shared-new";
+  compare-differ, push-1115, push-65536, block-1115, block-65536, or with formats 33 to 37 points,
+  points-turned or judge; or it is library-shared-held or library-shared-new";
 
 /// The formats of the first table: the shortest block, one between, the longest
 /// that goes through the trellises alone, and the longest with BCH pieces.

@@ -1,10 +1,12 @@
 //! A plain encoder to time the library against: the same calls with the same
-//! checks, all tables made beforehand, ordinary loops.
+//! checks, all tables made beforehand, ordinary loops. A judgement alone has no
+//! checks, and is in C.
 
 use crate::bch::PlainBch;
 use crate::points::PlainPoints;
+use crate::search::{Capture, PlainSearch};
 use crate::slicer::PlainSlicer;
-use interface::{BlockAnswer, Comparison, RunAnswer, Slicer, SlicerAnswer};
+use interface::{BlockAnswer, Comparison, Judgement, RunAnswer, Slicer, SlicerAnswer};
 use oracle::annex_c::AnnexC;
 use oracle::framing::{
     FRAME_LABELS, FRAME_SLOTS, PILOT, PILOT_FRAME_SLOTS, SUBSECTION_DATA, SUBSECTION_PILOTS,
@@ -47,12 +49,13 @@ impl Tables {
 }
 
 /// The tables of some formats, each at its format's number, and those of the BCH
-/// code, of the slicer and of the points.
+/// code, of the slicer, of the points and of the search among them.
 pub struct Plain {
     tables: Vec<Option<Tables>>,
     bch: PlainBch,
     slicer: PlainSlicer,
     points: PlainPoints,
+    search: PlainSearch,
 }
 
 impl Plain {
@@ -68,6 +71,7 @@ impl Plain {
             bch: PlainBch::new(),
             slicer: PlainSlicer::new(),
             points: PlainPoints::new(),
+            search: PlainSearch::new(),
         }
     }
 
@@ -192,6 +196,10 @@ impl Plain {
 
     pub fn points(&self, format: u64, slots: &[u16], code: u64, place: u64, out: &mut [u64]) -> u8 {
         self.points.points(format, slots, code, place, out)
+    }
+
+    pub fn judge(&self, labels: &[u8], capture: &Capture) -> Judgement {
+        self.search.judge(labels, capture)
     }
 }
 
