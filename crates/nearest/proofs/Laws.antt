@@ -49,7 +49,7 @@ module _ (d : ℕ → Float) where
         below = l.below;
       })
 
-  pub least_is : (n : ℕ) → ((k : ℕ) → k < suc n → NotNan (d k)) → Least d (suc n) (least d (suc n))
+  least_is : (n : ℕ) → ((k : ℕ) → k < suc n → NotNan (d k)) → Least d (suc n) (least d (suc n))
   unfolding least
   least_is zero numbers =
       let only : Least d 1 0 =

@@ -56,9 +56,6 @@ module _ (i q : Float) where
     abbrev pub Found : ℕ → ℕ → Bool → Type 0
     Found first label nearer = (nearer || some_nearer i q label (first + row - label) so_far) ≡ some_nearer i q first row so_far
 
-    pub found_start : (first : ℕ) → Found first first false
-    found_start first = let e : first + row - first ≡ row = omega arith in ap (λ n. some_nearer i q first n so_far) e
-
     pub found_next : (first label : ℕ) (nearer : Bool) → label < first + row → Found first label nearer
         → Found first (label + 1) (nearer || lt (d label) so_far)
     unfolding some_nearer

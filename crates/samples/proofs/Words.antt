@@ -121,7 +121,7 @@ module _ (text : List ℕ) (long : length text ≡ digits) where
       let e : digits ≡ 0 + length text = omega (arith, long) in
       ap (λ (n : ℕ). hexadecimal n (word_in text)) e ∙ hexadecimal-behind 0 0 text t
 
-  pub is_word : same text (hexadecimal digits (word_in text)) ≡ all_digits text
+  is_word : same text (hexadecimal digits (word_in text)) ≡ all_digits text
   is_word =
       by_cases
       (all_digits text)
