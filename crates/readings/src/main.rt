@@ -3,7 +3,7 @@
 // behind it.
 #![tactic(auto)]
 
-use std::{io, str};
+use std::io;
 
 mod answer;
 mod buffers;
@@ -23,16 +23,14 @@ fn main(rt: HostRuntime) -> io::Result<()> {
     lines::run(&rt)
 }
 
-// A row ends with a line feed: what stands behind the last is printed, and no call. A row that is no text is a comment.
+// A row ends with a line feed: what stands behind the last is printed, and no call.
 fn run(rt: &impl Print, input: &[u8]) -> io::Result<()> {
     for line in input.split_inclusive(|&byte| byte == b'\n') {
         let Some(row) = line.strip_suffix(b"\n") else {
             return rt.write_all(line);
         };
         rt.write_all(row)?;
-        if let Ok(row) = str::from_utf8(row) {
-            calls::make(rt, row)?;
-        }
+        calls::make(rt, row)?;
         testkit::end_row(rt)?;
     }
     Ok(())

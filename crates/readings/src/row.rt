@@ -1,22 +1,27 @@
-// A row of the input: a word, which says which call to make, and the numbers for it.
-use std::str::{FromStr, Split};
+// A row of the input: a word, whose first letter says which call to make, and the numbers for it, at most six.
 
-// The fields that are not yet read.
-#[derive(Drop)]
-pub(crate) struct Row<'a>(Split<'a, char>);
+// What begins the word, 0 where the row is empty: its first byte that is no comma and not 0.
+pub(crate) fn letter(row: &[u8]) -> u8 {
+    let begins = |&&byte: &&u8| byte != b',' && byte != 0;
+    row.iter().find(begins).copied().unwrap_or(0)
+}
 
-impl<'a> Row<'a> {
-    pub(crate) fn new(line: &'a str) -> Row<'a> {
-        Row(line.split(','))
+// The last N fields as numbers, the word among them where there are fewer, and 0 where there is none.
+pub(crate) fn numbers<const N: usize>(row: &[u8]) -> [usize; N] {
+    let mut numbers = [0; N];
+    let fields = row.rsplit(|&byte| byte == b',');
+    for (number, field) in numbers.iter_mut().rev().zip(fields) {
+        *number = value(field);
     }
+    numbers
+}
 
-    // The next field, empty where there is none.
-    pub(crate) fn word(&mut self) -> &'a str {
-        self.0.next().unwrap_or("")
-    }
+// Above a tenth of 2^64.
+const TENTH: usize = 1844674407370955162;
 
-    // The next field as a number, 0 where it is none.
-    pub(crate) fn number<T: FromStr<Err: Drop> + Default>(&mut self) -> T {
-        self.word().parse().unwrap_or_default()
-    }
+// The number of these digits, right for every number below 2^64; each byte counts as a digit. The digits' codes are 48 to 57.
+fn value(digits: &[u8]) -> usize {
+    digits.iter().fold(0, |n: usize, &digit| {
+        (n % TENTH * 10).wrapping_add(usize::from(digit % 16))
+    })
 }

@@ -36,12 +36,16 @@ pub const WHOLE: u16 = u16::MAX;
 // The digest of a list, as a field: from 1 on, d becomes (1000003 d + x + 1) modulo 4294967291 at each element x, of which only the bits of the
 // mask count.
 pub fn print_digest<T: Copy + Into<u16>>(rt: &impl Print, list: &[T], mask: u16) -> io::Result<()> {
-    print_field(rt, list.iter().fold(1, |d, &x| mixed(d, x.into() & mask)))
+    print_field(
+        rt,
+        list.iter()
+            .fold(1, |d, &x| mixed(d, u64::from(x.into() & mask))),
+    )
 }
 
 // A digest with one element more.
-fn mixed(d: u64, x: u16) -> u64 {
-    (d % 4294967291 * 1000003 + u64::from(x) + 1) % 4294967291
+pub fn mixed(d: u64, x: u64) -> u64 {
+    (d % 4294967291 * 1000003 + x % 65536 + 1) % 4294967291
 }
 
 // Bits from a linear congruential generator, the seed below 2^31.
