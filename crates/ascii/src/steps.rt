@@ -14,18 +14,20 @@ pub const LINE_FEED: u8 = b'\n';
 
 pub const ZERO: u8 = b'0';
 
+pub const NINE: u8 = b'9';
+
 // Words, from the place at on; answers the place behind them.
 // Buffer and place stay two parameters, here and below: a struct of both has the same clauses and one fact more, that the place is inside, for
 // two callers that put two texts each; and of a part of out they would have to say what one equation, `sets`, says: where the bytes go and what
 // stays.
-#[tactic(auto, using(bits::proofs::Parts::sets_of_part))]
+#[tactic(auto, using(bits::proofs::Parts::sets_of_front))]
 pub fn put(words: &[u8], out: &mut [u8], at: usize) -> usize
     requires { at + length words.now ≤ length out.old }
     ensures value { result ≡ at + length words.now }
     ensures out_after { out.new ≡ sets out.old at words.now }
 {
     let end = at + words.len();
-    out[at..end].copy_from_slice(words);
+    bits::steps::put(words, &mut out[at..end]);
     end
 }
 

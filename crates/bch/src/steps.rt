@@ -22,7 +22,7 @@ pub fn encode(list: &[u8], out: &mut [u8])
     ensures { out.new ≡ coded list.now ++ drop (length list.now + check_length) out.old }
 {
     let n = list.len();
-    out[..n].copy_from_slice(list);
+    bits::steps::put(list, out);
     put_bits(check_word(list), &mut out[n..n + CHECK_LENGTH]);
 }
 

@@ -6,6 +6,7 @@ ghost use Rattle.bits.specs.Sum.{◌⊕◌};
 ghost use Rattle.bits.specs.Legal.{all_at_most};
 
 pub mod checks;
+pub mod steps;
 
 pub use checks::Refusal;
 

@@ -104,7 +104,7 @@ impl Slicer {
         if self.waiting < k {
             return Ok(Sliced::Wait);
         }
-        out[..k].copy_from_slice(&memory[..k]);
+        bits::steps::put(&memory[..k], out);
         memory.copy_within(k..self.waiting, 0);
         Ok(Sliced::Block(Slicer {
             waiting: self.waiting - k,
