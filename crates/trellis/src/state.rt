@@ -90,8 +90,8 @@ impl State {
         ensures { result ≡ self ⊕ₛ other }
     {
         State {
-            x0: self.x0 ^ other.x0,
-            x1: self.x1 ^ other.x1,
+            x0: bits::sum(self.x0, other.x0),
+            x1: bits::sum(self.x1, other.x1),
         }
     }
 
@@ -99,9 +99,9 @@ impl State {
     pub fn terminate(self) -> Termination
         ensures { result ≡ termination_of self }
     {
-        let s0 = self.x0 ^ self.x1;
+        let s0 = bits::sum(self.x0, self.x1);
         let second = self.next(s0);
-        let s1 = second.x0 ^ second.x1;
+        let s1 = bits::sum(second.x0, second.x1);
         Termination {
             s0,
             p0: self.parity(s0),
