@@ -25,7 +25,7 @@ segments-length : (from : ℕ) (ends bits : List ℕ) → length (map end_state 
 segments-length from [] bits = refl
 segments-length from (to ∷ later) bits = ap suc (segments-length to later bits)
 
-ended-length : (cuts bits : List ℕ) → length (end_states cuts bits) ≡ length cuts + 1
+pub ended-length : (cuts bits : List ℕ) → length (end_states cuts bits) ≡ length cuts + 1
 ended-length cuts bits = segments-length 0 (stops (length bits) cuts) bits ∙ stops-length (length bits) cuts
 
 -- the starting states that are left to store: none, past the last cut or the last end

@@ -3,15 +3,30 @@ use mathlib.Core.Path.{◌≡◌}
 use mathlib.Core.List.{List, [], ◌∷◌}
 use Prim.Native.Nat.{ℕ, zero, suc, ◌+◌, ◌*◌, ◌<◌}
 use native.Mathlib.Omega.{arith}
-use borrow.Author.Tests.{eq-eqb, lt-ltb}
-use lib.ListN.{length, get_or}
-use lib.Seq.{take_at, drop-append-add}
+use borrow.Author.Tests.{eqb-true, eq-eqb, lt-ltb}
+use lib.Dec.{eqb}
+use lib.ListN.{length, get_or, drop, length-drop}
+use lib.Seq.{length-take-le, take_at, drop-append-add}
+use Rattle.std.specs.Prelude.{if◌then◌else◌}
 use Rattle.std.proofs.lemmas.List.Elements.{All-from_get_or}
+use Rattle.bits.specs.Checks.{passed}
 use Rattle.bits.specs.Joined.{joined}
+use Rattle.bits.proofs.Cases.{by_cases}
 use Rattle.bits.proofs.Lists.{Long, joined-long}
 use Rattle.acm.specs.Formats.{symbols}
 use Rattle.framing.specs.Frame.{section, sections}
 use Rattle.framing.specs.Calls.{section_labels, section_number}
+use Rattle.framing.proofs.Checked.{section-passed}
+
+-- with the number 0 the part is a codeword's labels, with any other it is empty
+pub section-length : (labels : List ℕ) (place : ℕ)
+    → length (section_labels labels place) ≡ (if eqb (section_number labels place) passed then symbols else 0)
+unfolding section_labels
+section-length labels place =
+    by_cases (eqb (section_number labels place) passed)
+    (λ t. let p = section-passed labels place (eqb-true _ _ t) in
+    rw t (length-take-le symbols (drop (place * symbols) labels) (simp length-drop (omega (arith, p.long, p.inside)))))
+    (λ f. rw f)
 
 -- lists that are all a codeword's labels
 abbrev pub Codewords : List (List ℕ) → Type 0

@@ -61,7 +61,7 @@ module _ (α β : List ℕ) (v : Vectors α β) (column row : ℕ) (c : column <
   abbrev position : ℕ
   position = permuted α β (length α * column + row)
 
-  sum_low : sum < 2 * M
+  pub sum_low : sum < 2 * M
   sum_low = omega (arith, v.β_range row r)
 
   permuted-in : position ≡ length α * (sum % M) + get_or α row 0

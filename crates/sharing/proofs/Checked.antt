@@ -21,7 +21,7 @@ module _ (f : ℕ) (block : List ℕ) (work_room out_room : ℕ) (memory : List 
   number = shared_number f block work_room out_room memory held
 
   -- once encode's checks hold, those of the memory decide
-  memory_later : plain ≡ passed → first_failed (memory_checks f memory held) ≡ number
+  pub memory_later : plain ≡ passed → first_failed (memory_checks f memory held) ≡ number
   unfolding shared_number
   memory_later e = when_passed plain (first_failed (memory_checks f memory held)) plain e
 

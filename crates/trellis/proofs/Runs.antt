@@ -58,7 +58,7 @@ pub terminated-bits : (x : State) (bits : List ℕ) → all_bits bits ≡ true �
 terminated-bits x bits h = legal-append 1 bits (termination (ends x bits)) h (termination-bits (ends x bits))
 
 -- a state is found again from its number
-state_back : (x : State) → x.1 ≤ 1 → state_of (state_number x) ≡ x
+pub state_back : (x : State) → x.1 ≤ 1 → state_of (state_number x) ≡ x
 state_back x h =
     let first : (2 * x.0 + x.1) / 2 ≡ x.0 = omega arith in
     let second : (2 * x.0 + x.1) % 2 ≡ x.1 = omega arith in
