@@ -32,7 +32,7 @@ pub struct Format {
     pub delta: usize,
 }
 
-// The same as the table has it: no number takes more than 16 bits, and a short table is laid out sooner at a lookup.
+// The same as the table has it: no number takes more than 16 bits.
 #[derive(Clone, Copy)]
 pub struct Row {
     pub number: u16,
